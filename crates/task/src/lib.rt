@@ -68,13 +68,14 @@ impl Refusal {
         self.fault as u8
     }
 
-    // The layer that refused: 1 the book, 2 the tables, 3 the bench.
+    // The layer that refused: 1 the book, 2 the tables, 3 the bench, 4 the console.
     pub fn layer(&self) -> u8
         ensures { λ r. ⌜ r ≡ layer-of (now (self .entry) .fault) ⌝ }
     {
         match self.fault {
-            Fault::ShortTable => 2,
-            Fault::StartOutside => 3,
+            Fault::RowCount | Fault::ShortTable => 2,
+            Fault::StartOutside | Fault::NoPlan | Fault::NoStepLeft => 3,
+            Fault::BadLine | Fault::OutOfTurn | Fault::LongBook => 4,
             _ => 1,
         }
     }

@@ -15,8 +15,14 @@ pub enum Fault {
     OverLimit = 10,
     RepeatsCondition = 11,
     NoGoal = 12,
+    RowCount = 20,
     ShortTable = 21,
     StartOutside = 30,
+    NoPlan = 31,
+    NoStepLeft = 32,
+    BadLine = 40,
+    OutOfTurn = 41,
+    LongBook = 42,
 }
 
 // A fault and its place: a byte of the book, a table, a variable or a line, as the fault's layer has it.
