@@ -1,1 +1,4 @@
 pub mod Charges
+pub mod Totals
+pub mod Time
+pub mod Presses
