@@ -19,7 +19,8 @@ use Rattle.book.specs.declared.records.Head.{Head}
 use Rattle.book.specs.declared.Stage.{Stage}
 use Rattle.book.specs.declared.Stage.the-variants as stage
 use Rattle.book.specs.Records.{Parts, variable-part, action-part, goal-part, head-of, parts-of}
-use Rattle.book.specs.Format.{stage-after, fault-in, grown, unless, or-refuse, and-then, admitted, Reading, reading, step-of, run, start, finished, parse, acts-in, Limited, Filled}
+use Rattle.book.specs.Format.{stage-after, fault-in, grown, unless, or-refuse, and-then, admitted, Reading, reading, step-of, run, start, finished, parse}
+use Rattle.book.specs.Reader.{acts-in, Limited, Filled}
 use Rattle.book.proofs.Faults.{limited}
 use Rattle.book.proofs.Steps.{after-head, after-stage, after-parts}
 use Rattle.book.proofs.Runs.{Walk, goes, more, ends}

@@ -2,10 +2,10 @@
 use mathlib.Core.Path.{_≡_, refl, sym, ap, _∙_}
 use mathlib.Core.Bool.{Bool, true, false, cond, _||_, _&&_}
 use mathlib.Core.List.{List, [], _∷_}
-use Prim.Native.Nat.{ℕ, suc, _+_, _-_, _/_, _≤_, _<_}
+use Prim.Native.Nat.{ℕ, _+_, _-_, _≤_, _<_}
 use native.Mathlib.Omega.{arith}
 use lib.Dec.{leb, ltb, eqb}
-use lib.ListN.{length, getD, take, drop}
+use lib.ListN.{length, getD}
 use Rattle.std.proofs.shelf.Tests.{cond-false, and-parts, or-parts, ltb-true, ltb-false, leb-true, leb-false, eqb-false}
 use Rattle.std.specs.declared.option.Option.{Option}
 use Rattle.std.specs.declared.option.Option.the-variants.{Some, None}
@@ -14,7 +14,8 @@ use Rattle.task.specs.declared.refusal.Fault.{Fault}
 use Rattle.task.specs.declared.refusal.Fault.the-variants.{TooMany, ValueCount, OutsideBench, NotRising, NoEffect, OverLimit, RepeatsCondition}
 use Rattle.task.specs.Benches.{Act}
 use Rattle.book.specs.Records.{Parts, variable-part, action-part, goal-part}
-use Rattle.book.specs.Format.{atoms-fault, act-fault, variable-fault, crowding, repeating, or-else, fault-in, Limited, Limited-act}
+use Rattle.book.specs.Format.{atoms-fault, act-fault, variable-fault, crowding, repeating, or-else, fault-in}
+use Rattle.book.specs.Reader.{Limited, Limited-act}
 
 pub act-judged : (part sizes : List ℕ) → part ≡ sizes → (n : ℕ) {a : Act} (p : Parts) → p ≡ action-part a → (r : Option Fault) → false ≡ crowding n (a .conditions) (a .effects) → r ≡ act-fault part a → r ≡ fault-in sizes n p
 act-judged part sizes s n {a} p e r k h = h ∙ ap (λ z. act-fault z a) s ∙ sym (ap (fault-in sizes n) e ∙ cond-false _ _ _ (sym k))

@@ -6,17 +6,13 @@ use Prim.Native.Nat.{ℕ, zero, suc, _+_, _≤_, _<_}
 use native.Mathlib.Omega.{arith}
 use lib.ListN.{length, drop}
 use Rattle.std.specs.shelf.Lists.{All}
-use Rattle.std.specs.declared.option.Option.{Option}
 use Rattle.std.specs.declared.option.Option.the-variants.{Some, None}
-use Rattle.std.specs.declared.result.Result.{Result}
-use Rattle.std.specs.declared.result.Result.the-variants.{Ok, Err}
+use Rattle.std.specs.declared.result.Result.the-variants.{Ok}
 use Rattle.std.proofs.shelf.Elements.{all-push}
 use Rattle.std.proofs.shelf.Lists.{length-push}
 use Rattle.std.proofs.shelf.Tests.{or-parts}
 use Rattle.task.specs.declared.data.Atom.{Atom}
-use Rattle.task.specs.declared.refusal.Fault.{Fault}
 use Rattle.task.specs.declared.refusal.Fault.the-variants.{WrongLength}
-use Rattle.task.specs.declared.refusal.Refusal.{Refusal}
 use Rattle.task.specs.Settings.{some-atom}
 use Rattle.task.specs.Benches.{Act, Bench, Rising, Inside, Lawful-act, Lawful, alike}
 use Rattle.task.specs.Refusals.{refuse}
@@ -25,7 +21,8 @@ use Rattle.book.specs.declared.records.Kind.the-variants as kind
 use Rattle.book.specs.declared.Stage.{Stage}
 use Rattle.book.specs.declared.Stage.the-variants as stage
 use Rattle.book.specs.Records.{Parts, variable-part, action-part, goal-part, parts-of}
-use Rattle.book.specs.Format.{stage-after, atoms-fault, repeating, fault-in, grown, Reading, reading, step-of, run, start, parse}
+use Rattle.book.specs.Format.{stage-after, atoms-fault, repeating, fault-in, grown, Reading, step-of, run, start, parse}
+use Rattle.book.specs.Print.{kind-in}
 use Rattle.book.proofs.Faults.{fine-atom, fine-act, fine-variable}
 use Rattle.book.proofs.Accepted.{ok-same, then-ok, Admitted, admits, ended}
 
@@ -89,10 +86,10 @@ record Sound (s : Stage) (b : Bench) : Type 0 where
   goal-rises : Rising (b .goal)
   staged : Staged s b
 
-some-none : {X : Type 0} (x : X) → None ≡ Some x → ⊥
+pub some-none : {X : Type 0} (x : X) → None ≡ Some x → ⊥
 some-none x e = let z : _≡_ {A = ℕ} 0 1 = cc in omega arith
 
-some-same : {X : Type 0} (x y : X) → Some x ≡ Some y → x ≡ y
+pub some-same : {X : Type 0} (x y : X) → Some x ≡ Some y → x ≡ y
 some-same x y e = cc
 
 -- before and after a record that may stand
@@ -114,16 +111,11 @@ goal-stands stage.Actions t b e h = (some-same _ _ e, h .0)
 goal-stands stage.Goal t b e h = (some-same _ _ e, h)
 goal-stands stage.Done t b e h = absurd (some-none _ e)
 
-abbrev kind-in : Parts → Kind
-kind-in (variable-part n) = kind.Variable
-kind-in (action-part a) = kind.Action
-kind-in (goal-part atoms) = kind.Goal
-
 held : (t : Bool) (x p : Parts) (at : ℕ) → cond t (Ok x) (refuse WrongLength at) ≡ Ok p → x ≡ p
 held true x p at e = ok-same _ _ e
 held false x p at e = absurd (let z : _≡_ {A = ℕ} 0 1 = cc in omega arith)
 
-same-kind : (k : Kind) (body : List ℕ) (at : ℕ) (p : Parts) → parts-of k body at ≡ Ok p → k ≡ kind-in p
+pub same-kind : (k : Kind) (body : List ℕ) (at : ℕ) (p : Parts) → parts-of k body at ≡ Ok p → k ≡ kind-in p
 same-kind kind.Variable body at p e = ap kind-in (held _ _ p at e)
 same-kind kind.Action body at p e = ap kind-in (held _ _ p at e)
 same-kind kind.Goal body at p e = ap kind-in (held _ _ p at e)

@@ -6,3 +6,10 @@ pub mod Runs
 pub mod Accepted
 pub mod Readings
 pub mod Laws
+pub mod Puts
+pub mod Writings
+pub mod Lawfuls
+pub mod Backs
+pub mod Printed
+pub mod Bodies
+pub mod Reprinted

@@ -1,6 +1,6 @@
 -- A task grows with its bench.
 use mathlib.Core.Path.{_≡_, refl, sym, ap, _∙_, subst}
-use mathlib.Core.Bool.{Bool, true, false, cond}
+use mathlib.Core.Bool.{Bool, cond}
 use mathlib.Core.List.{List, [], _∷_, _++_}
 use Prim.Native.Nat.{ℕ, suc, _+_, _-_, _≤_, _<_}
 use native.Mathlib.Omega.{arith}
@@ -14,7 +14,8 @@ use Rattle.task.specs.declared.data.Task.{Task}
 use Rattle.task.specs.Settings.{listed}
 use Rattle.task.specs.Benches.{Act, Bench}
 use Rattle.book.specs.Records.{Parts, variable-part, action-part, goal-part, atoms-in}
-use Rattle.book.specs.Format.{fault-in, grown, Outline}
+use Rattle.book.specs.Format.{fault-in, grown}
+use Rattle.book.specs.Reader.{Outline}
 use Rattle.book.proofs.Atoms.{first, atoms-more}
 use Rattle.book.proofs.Faults.{fine-variable, few-atoms}
 

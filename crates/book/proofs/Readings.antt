@@ -11,9 +11,10 @@ use Rattle.task.specs.declared.data.Action.{Action}
 use Rattle.task.specs.declared.data.Task.{Task}
 use Rattle.task.specs.declared.refusal.Fault.the-variants.{ShortTable}
 use Rattle.task.specs.declared.refusal.Refusal.{Refusal}
-use Rattle.task.specs.Benches.{Bench, Lawful, act-of, bench-of}
-use Rattle.task.specs.Refusals.{refuse, refusal}
-use Rattle.book.specs.Format.{and-then, fitted, parse, parse-into, Agree, Outline, Filled, Fits, Holds, Kept}
+use Rattle.task.specs.Benches.{Bench, act-of, bench-of}
+use Rattle.task.specs.Refusals.{refuse}
+use Rattle.book.specs.Format.{and-then, fitted, parse, parse-into}
+use Rattle.book.specs.Reader.{Agree, Outline, Filled, Fits, Holds}
 use Rattle.book.proofs.Outlines.{sizes-listed}
 
 -- the bench of a surveyed book

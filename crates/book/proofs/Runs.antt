@@ -15,7 +15,8 @@ use Rattle.task.specs.Refusals.{refuse}
 use Rattle.book.specs.declared.Stage.{Stage}
 use Rattle.book.specs.declared.Stage.the-variants as stage
 use Rattle.book.specs.declared.Seen.{Seen}
-use Rattle.book.specs.Format.{and-then, Reading, reading, step-of, run, start, finished, parse, Agree, Outline, Stepped}
+use Rattle.book.specs.Format.{and-then, Reading, reading, step-of, run, start, finished, parse}
+use Rattle.book.specs.Reader.{Agree, Outline, Stepped}
 
 -- the records before these bytes, which stand at `at`, gave the reading
 pub record Walk (book bytes : List ℕ) (at : ℕ) (σ : Reading) : Type 0 where

@@ -3,9 +3,7 @@ use mathlib.Core.Path.{_≡_, refl, sym, ap, _∙_, subst}
 use mathlib.Core.List.{List}
 use Prim.Native.Nat.{ℕ, _+_}
 use lib.ListN.{length, take}
-use native.Mathlib.Omega.{arith}
 use Rattle.std.specs.Holes.{between}
-use Rattle.std.specs.declared.option.Option.{Option}
 use Rattle.std.specs.declared.option.Option.the-variants.{Some, None}
 use Rattle.std.specs.declared.result.Result.{Result}
 use Rattle.std.specs.declared.result.Result.the-variants.{Ok, Err}
@@ -15,12 +13,12 @@ use Rattle.task.specs.declared.refusal.Fault.the-variants.{OutOfPlace}
 use Rattle.task.specs.declared.refusal.Refusal.{Refusal}
 use Rattle.task.specs.Benches.{Bench}
 use Rattle.task.specs.Refusals.{refusal}
-use Rattle.book.specs.declared.records.Kind.{Kind}
 use Rattle.book.specs.declared.records.Head.{Head}
 use Rattle.book.specs.declared.Stage.{Stage}
 use Rattle.book.specs.declared.Seen.{Seen}
 use Rattle.book.specs.Records.{Parts, head-of, parts-of}
-use Rattle.book.specs.Format.{stage-after, fault-in, grown, unless, or-refuse, and-then, admitted, Reading, reading, step-of, Agree, Outline, Stepped}
+use Rattle.book.specs.Format.{stage-after, fault-in, grown, unless, or-refuse, and-then, admitted, Reading, reading, step-of}
+use Rattle.book.specs.Reader.{Agree, Outline, Stepped}
 use Rattle.book.proofs.Outlines.{sizes-listed}
 
 same-fault : (t : Task) (b : Bench) → Outline t b → (p : Parts) → fault-in (take (t .variables) (t .sizes)) (t .actions) p ≡ fault-in (b .sizes) (length (b .actions)) p

@@ -10,7 +10,6 @@ use Rattle.std.specs.declared.option.Option.the-variants.{Some, None}
 use Rattle.std.specs.declared.result.Result.{Result}
 use Rattle.std.specs.declared.result.Result.the-variants.{Ok, Err}
 use Rattle.task.specs.declared.data.Atom.{Atom}
-use Rattle.task.specs.declared.refusal.Fault.{Fault}
 use Rattle.task.specs.declared.refusal.Fault.the-variants.{CutShort, UnknownKind, WrongLength}
 use Rattle.task.specs.declared.refusal.Refusal.{Refusal}
 use Rattle.task.specs.Benches.{Act}

@@ -1,6 +1,5 @@
-// Reads a bench book into a task and a lent table of actions.
+// Reads a bench book into a task and a lent table of actions, and writes it again.
 ghost use mathlib.Core.Path.{_≡_};
-ghost use mathlib.Core.Bool.{cond};
 ghost use mathlib.Core.List.{_++_, map};
 ghost use Prim.Native.Nat.{_+_, _≤_};
 ghost use lib.ListN.{length, take, drop};
@@ -10,7 +9,9 @@ ghost use Rattle.std.specs.declared.result.Result.the-variants.{Ok};
 ghost use Rattle.task.specs.Settings.{listed, some-atom};
 ghost use Rattle.task.specs.Benches.{Bench, Lawful, act-of, alike, bench-of};
 ghost use Rattle.book.specs.Records.{atoms-in, act-in, shown, offset};
-ghost use Rattle.book.specs.Format.{stage-after, or-refuse, atoms-fault, repeating, act-fault, variable-fault, crowding, fault-in, grown, admitted, reading, step-of, Stepped, parse, parse-into, Agree, Outline, acts-in, Limited, Limited-act, Filled, Fits, Holds, Kept};
+ghost use Rattle.book.specs.Format.{stage-after, or-refuse, atoms-fault, repeating, act-fault, variable-fault, crowding, fault-in, grown, admitted, reading, step-of, parse, parse-into};
+ghost use Rattle.book.specs.Print.{print};
+ghost use Rattle.book.specs.Reader.{Stepped, Agree, Outline, acts-in, Limited, Limited-act, Filled, Fits, Holds, Kept};
 use task::Action;
 use task::Atom;
 use task::Atoms;
@@ -19,12 +20,14 @@ use task::Refusal;
 use task::Task;
 
 mod records;
+mod writer;
 
 use records::Kind;
 use records::Record;
 use records::head_of;
 use records::place_of;
 use records::record_of;
+pub use writer::write;
 
 // What may stand next: the first variable; a variable, an action or the goal; an action or the goal;
 // nothing.
@@ -363,6 +366,7 @@ pub fn read(book: &[u8], actions: &mut [Action]) -> Result<Task, Refusal>
     ensures table { λ r. ⌜ Kept (now (actions .entry)) (now (actions .exit)) r ⌝ }
     ensures room { λ r. ⌜ Cases r (λ task. task .actions ≤ length (now (actions .exit))) (λ _. Unit {0}) ⌝ }
     ensures lawful { λ r. ⌜ Cases r (λ task. Lawful (bench-of task (now (actions .exit)))) (λ _. Unit {0}) ⌝ }
+    ensures printed { λ r. ⌜ Cases r (λ task. print (bench-of task (now (actions .exit))) ≡ now (book .entry)) (λ _. Unit {0}) ⌝ }
 {
     let task = survey(book)?;
     if actions.len() < task.actions {

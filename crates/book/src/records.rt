@@ -9,9 +9,9 @@ use task::Refusal;
 
 #[derive(Clone, Copy)]
 pub(crate) enum Kind {
-    Variable,
-    Action,
-    Goal,
+    Variable = 1,
+    Action = 2,
+    Goal = 3,
 }
 
 // The first four bytes of a record: its kind and the length of its body.

@@ -1,4 +1,4 @@
-// Books, and what they read to.
+// Books, what they read to, and what is written of that.
 
 #[cfg(test)]
 mod maker;
@@ -7,11 +7,14 @@ mod maker;
 mod tests {
     use crate::maker::Maker;
     use crate::maker::accepted;
+    use crate::maker::not_written;
     use crate::maker::refused;
     use crate::maker::refused_after;
+    use crate::maker::round_trip;
     use crate::maker::same_action;
     use crate::maker::same_atoms;
     use crate::maker::spare;
+    use crate::maker::written;
     use book::read;
     use std::test::*;
 
@@ -32,6 +35,7 @@ mod tests {
         );
         book.add(b"\x0c\x00\x02\x00\x04\x00\x00\x00\x00\x00\x01\x01\x03\x00\x03\x01");
         book.add(b"\x07\x00\x03\x00\x03\x01\x00\x02\x01\x03\x01");
+        round_trip(book.bytes())?;
         let mut table = [spare(); 6];
         match read(book.bytes(), &mut table) {
             Ok(task) => {
@@ -84,7 +88,8 @@ mod tests {
         refused(b"\x05\x00\x09\x00", 1, 0)?;
         refused(b"\x01\x00\x00\x00\x03", 2, 0)?;
         refused(b"\x01\x00\x04\x00\x03", 2, 0)?;
-        refused(b"\x01\x00\x01\x01\x03", 2, 0)
+        refused(b"\x01\x00\x01\x01\x03", 2, 0)?;
+        refused_after(b"\x01\x00\x01\x00\x03", b"\x00\x00\x04\x00", 2, 5)
     }
 
     #[test]
@@ -138,6 +143,12 @@ mod tests {
         refused_after(
             variable,
             b"\x08\x00\x02\x00\x00\x00\x00\x00\x00\x00\x11\x01",
+            4,
+            5,
+        )?;
+        refused_after(
+            variable,
+            b"\x0a\x00\x02\x00\x41\x42\x0f\x00\x00\x00\x01\x01\x00\x00",
             4,
             5,
         )
@@ -233,6 +244,9 @@ mod tests {
         let mut conditions = Maker::new();
         conditions.action(17, 1);
         refused_after(book.bytes(), conditions.bytes(), 5, 320)?;
+        let mut more = Maker::new();
+        more.action(1, 17);
+        refused_after(book.bytes(), more.bytes(), 5, 320)?;
         let mut effects = Maker::new();
         effects.add(b"\x2a\x00\x02\x00\x41\x42\x0f\x00\x00\x00\x00\x11");
         effects.atoms(17, 1);
@@ -280,6 +294,63 @@ mod tests {
                 check_eq(refusal.place, 1)?;
                 check(same_action(&table[0], 9, 9, b"", b""))
             }
+        }
+    }
+
+    // No actions and a goal with no atom; the greatest numbers; one of each record at its least.
+    #[test]
+    fn small_round_trips() -> Result<(), Fail> {
+        round_trip(b"\x01\x00\x01\x00\x01\x01\x00\x03\x00\x00")?;
+        round_trip(b"\x01\x00\x01\x00\x20\x03\x00\x03\x00\x01\x00\x1f")?;
+        round_trip(
+            b"\x01\x00\x01\x00\x03\x0a\x00\x02\x00\x40\x42\x0f\x00\xe8\x03\x00\x01\x00\x01\x01\x00\x03\x00\x00",
+        )?;
+        round_trip(
+            b"\x01\x00\x01\x00\x03\x0a\x00\x02\x00\x00\x00\x00\x00\x00\x00\x00\x01\x00\x01\x01\x00\x03\x00\x00",
+        )
+    }
+
+    // 64 variables of 32 values, and all of them in the goal.
+    #[test]
+    fn most_variables() -> Result<(), Fail> {
+        let mut book = Maker::new();
+        book.variables(64);
+        book.action(16, 16);
+        book.add(b"\x81\x00\x03\x00\x40");
+        book.atoms(64, 31);
+        round_trip(book.bytes())
+    }
+
+    // 1,024 actions with 16 conditions and 16 effects.
+    #[test]
+    fn most_actions() -> Result<(), Fail> {
+        let mut book = Maker::new();
+        book.variables(16);
+        for _ in 0..1024 {
+            book.action(16, 16);
+        }
+        book.add(b"\x01\x00\x03\x00\x00");
+        check_eq(book.bytes().len(), 77909)?;
+        round_trip(book.bytes())
+    }
+
+    // A short table of actions is refused before a short output.
+    #[test]
+    fn short_tables() -> Result<(), Fail> {
+        let mut book = Maker::new();
+        book.variables(1);
+        book.action(1, 1);
+        book.action(1, 1);
+        book.add(b"\x01\x00\x03\x00\x00");
+        let mut table = [spare(); 2];
+        match read(book.bytes(), &mut table) {
+            Ok(task) => {
+                not_written(&task, &table[0..1], 50, 1)?;
+                not_written(&task, &table[0..1], 3, 1)?;
+                not_written(&task, &table, 41, 7)?;
+                written(&task, &table, 42, book.bytes())
+            }
+            Err(refusal) => check_eq(refusal.number(), 0),
         }
     }
 }

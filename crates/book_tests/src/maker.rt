@@ -1,30 +1,32 @@
-// Makes books, and reads them.
+// Makes books, and reads and writes them.
 use book::read;
+use book::write;
 use std::test::Fail;
 use std::test::check;
 use std::test::check_eq;
 use task::Action;
 use task::Atom;
 use task::Atoms;
+use task::Task;
 
-// A book that is made byte by byte, up to 20,000.
+// A book that is made byte by byte, up to 80,000.
 #[derive(Drop)]
 pub(crate) struct Maker {
-    bytes: [u8; 20000],
+    bytes: [u8; 80000],
     length: usize,
 }
 
 impl Maker {
     pub(crate) fn new() -> Maker {
         Maker {
-            bytes: [0; 20000],
+            bytes: [0; 80000],
             length: 0,
         }
     }
 
     pub(crate) fn add(&mut self, bytes: &[u8]) {
         for byte in bytes {
-            if self.length < 20000 {
+            if self.length < 80000 {
                 self.bytes[self.length] = *byte;
                 self.length += 1;
             }
@@ -57,7 +59,7 @@ impl Maker {
 
     pub(crate) fn bytes(&self) -> &[u8] {
         let all = &self.bytes[..];
-        if self.length <= 20000 {
+        if self.length <= 80000 {
             &all[0..self.length]
         } else {
             all
@@ -148,4 +150,73 @@ pub(crate) fn accepted(
         }
         Err(refusal) => check_eq(refusal.number(), 0),
     }
+}
+
+// The output begins with the book, and its other places hold 7.
+fn holds(out: &[u8], book: &[u8]) -> bool {
+    for at in 0..out.len() {
+        let expected = if at < book.len() { book[at] } else { 7 };
+        if out[at] != expected {
+            return false;
+        }
+    }
+    book.len() <= out.len()
+}
+
+// Writing into so many places is refused for this table, and they keep what they held.
+pub(crate) fn not_written(
+    task: &Task,
+    actions: &[Action],
+    places: usize,
+    table: usize,
+) -> Result<(), Fail> {
+    let mut all = [7; 80000];
+    if places > 80000 {
+        return check(false);
+    }
+    let out = &mut all[0..places];
+    match write(task, actions, out) {
+        Ok(length) => check_eq(length, 100_000)?,
+        Err(refusal) => {
+            check_eq(refusal.number(), 21)?;
+            check_eq(refusal.layer(), 2)?;
+            check_eq(refusal.place, table)?;
+        }
+    }
+    check(holds(out, b""))
+}
+
+// The first of so many places then hold the book, and the others what they held.
+pub(crate) fn written(
+    task: &Task,
+    actions: &[Action],
+    places: usize,
+    book: &[u8],
+) -> Result<(), Fail> {
+    let mut all = [7; 80000];
+    if places > 80000 {
+        return check(false);
+    }
+    let out = &mut all[0..places];
+    match write(task, actions, out) {
+        Ok(length) => check_eq(length, book.len())?,
+        Err(refusal) => check_eq(refusal.number(), 0)?,
+    }
+    check(holds(out, book))
+}
+
+// The book is read and written again: into one byte too few, into as many bytes, and into more.
+pub(crate) fn round_trip(book: &[u8]) -> Result<(), Fail> {
+    let mut table = [spare(); 1024];
+    let task = match read(book, &mut table) {
+        Ok(task) => task,
+        Err(refusal) => return check_eq(refusal.number(), 0),
+    };
+    let size = book.len();
+    if size == 0 {
+        return check(false);
+    }
+    not_written(&task, &table, size - 1, 7)?;
+    written(&task, &table, size, book)?;
+    written(&task, &table, 80000, book)
 }

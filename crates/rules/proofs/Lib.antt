@@ -1,4 +1,4 @@
-mod Keypad
+pub mod Keypad
 mod Bridges
 mod Closings
 mod Lines

@@ -8,7 +8,7 @@ use Rattle.task.specs.declared.data.Action.{Action}
 use Rattle.task.specs.declared.data.Task.{Task}
 use Rattle.task.specs.declared.refusal.Refusal.{Refusal}
 use Rattle.task.specs.Benches.{Bench, bench-of}
-use Rattle.book.specs.Format.{Agree, Holds}
+use Rattle.book.specs.Reader.{Agree, Holds}
 use Rattle.validate.specs.Walks.{refused, asked, by-book}
 
 pub was-read : (table : List Action) (task : Task) (p : Result Bench Refusal) (input : List ℕ) → Agree (Holds table) (Ok task) p → asked (bench-of task table) input ≡ by-book p input

@@ -1,8 +1,9 @@
-use mathlib.Core.Path.{ap, sym, subst}
-use Rattle.std.specs.declared.result.Result.the-variants.{Ok, Err}
+use mathlib.Core.Path.{sym, subst}
+use Rattle.std.specs.declared.result.Result.the-variants.{Err}
 use Rattle.task.specs.Refusals.{refusal}
 use Rattle.book.specs.Records.{shown, offset}
-use Rattle.book.specs.Format.{admitted, Agree, Outline}
+use Rattle.book.specs.Format.{admitted}
+use Rattle.book.specs.Reader.{Agree, Outline}
 use Rattle.book.proofs.Steps.{refused, accepted}
 use Rattle.book.proofs.admit.Needs as need
 

@@ -1,4 +1,4 @@
-use mathlib.Core.Path.{sym, ap, _∙_}
+use mathlib.Core.Path.{ap}
 use Rattle.book.specs.Records.{shown}
 use Rattle.book.proofs.Faults.{act-judged, goal-judged}
 use Rattle.book.proofs.fault_in.Needs as need

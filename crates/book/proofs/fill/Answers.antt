@@ -1,12 +1,10 @@
-use mathlib.Core.Path.{_≡_, sym, ap, subst}
-use Prim.Native.Nat.{_<_, _≤_, _+_}
+use mathlib.Core.Path.{_≡_}
+use Prim.Native.Nat.{_<_, _≤_}
 use borrow.Author.Needs.{needs}
 use native.Mathlib.Omega.{arith}
 use lib.ListN.{length}
 use Rattle.task.specs.Benches.{Bench}
 use Rattle.book.specs.Records.{shown}
-use Rattle.book.specs.Format.{Limited}
-use Rattle.book.proofs.Faults.{limited}
 use Rattle.book.proofs.Runs.{begins}
 use Rattle.book.proofs.Accepted.{filling-begins, takes, same-head, same-parts, no-head, no-parts, has-room, goes-on, filled, limited-parts}
 use Rattle.book.proofs.fill.Needs as need

@@ -1,7 +1,7 @@
-use mathlib.Core.Path.{_≡_, sym, ap, _∙_}
+use mathlib.Core.Path.{ap, _∙_}
 use borrow.Author.Needs.{needs}
 use Rattle.task.specs.Settings.{listed}
-use Rattle.book.specs.Records.{shown, atoms-in}
+use Rattle.book.specs.Records.{shown}
 use Rattle.book.proofs.Outlines.{with-variable, with-action, with-goal, variable-room, goal-room}
 use Rattle.book.proofs.grow.Needs as need
 use Rattle.book.proofs.grow.Needs.{in-Variable, in-Action, in-Goal}

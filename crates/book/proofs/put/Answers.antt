@@ -1,10 +1,10 @@
-use mathlib.Core.Path.{_≡_, refl, sym, ap, _∙_}
+use mathlib.Core.Path.{_≡_, sym, ap}
 use Prim.Native.Nat.{_<_, _+_}
 use native.Mathlib.Omega.{arith}
 use lib.ListN.{length}
 use Rattle.std.proofs.shelf.Lists.{drop-set-lt}
-use Rattle.book.specs.Records.{shown, act-in}
-use Rattle.book.specs.Format.{acts-in}
+use Rattle.book.specs.Records.{shown}
+use Rattle.book.specs.Reader.{acts-in}
 use Rattle.book.proofs.Accepted.{put-first}
 use Rattle.book.proofs.put.Needs as need
 

@@ -3,7 +3,7 @@ use mathlib.Core.List.{[]}
 use Prim.Native.Nat.{_<_}
 use borrow.Author.Needs.{needs}
 use lib.ListN.{length}
-use Rattle.std.specs.declared.result.Result.the-variants.{Ok, Err}
+use Rattle.std.specs.declared.result.Result.the-variants.{Ok}
 use Rattle.task.specs.declared.refusal.Fault.the-variants.{NoGoal}
 use Rattle.task.specs.Refusals.{refuse}
 use Rattle.std.proofs.shelf.Results.{err-from-errBy}
