@@ -1,0 +1,10 @@
+pub mod Rows
+pub mod Steps
+pub mod Session
+pub mod Promise
+pub mod Queues
+pub mod Lined
+pub mod Counts
+pub mod Left
+pub mod Conclusions
+pub mod Cases
