@@ -21,7 +21,7 @@ pub struct Maker {
 
 impl Maker {
     // A bench with so many values for each variable, no action yet, and the goal's atoms.
-    pub fn new(values: &[u8], goal: &[u8]) -> Maker {
+    pub(crate) fn new(values: &[u8], goal: &[u8]) -> Maker {
         let sizes = setting(values);
         let variables = if values.len() < 64 { values.len() } else { 64 };
         let goal = atoms(goal);
@@ -35,7 +35,7 @@ impl Maker {
         Maker { task, table }
     }
 
-    pub fn add(&mut self, conditions: &[u8], effects: &[u8]) {
+    pub(crate) fn add(&mut self, conditions: &[u8], effects: &[u8]) {
         let at = self.task.actions;
         if at < 8 {
             self.table[at] = action(conditions, effects);
@@ -44,7 +44,12 @@ impl Maker {
     }
 
     // Each rule clears the work bytes over tables of other lengths too.
-    pub fn clears(&self, values: &[u8], marks: &mut [u8], work: &mut [u8]) -> Result<(), Fail> {
+    pub(crate) fn clears(
+        &self,
+        values: &[u8],
+        marks: &mut [u8],
+        work: &mut [u8],
+    ) -> Result<(), Fail> {
         check(clears(&rules::Atoms, self, values, marks, work))?;
         dirty(work);
         check(clears(&Actions, self, values, marks, work))?;
@@ -53,7 +58,7 @@ impl Maker {
     }
 
     // Both rules mark the actions so, and All marks every one, whatever marks and work held.
-    pub fn expect(&self, values: &[u8], marks: &[u8]) -> Result<(), Fail> {
+    pub(crate) fn expect(&self, values: &[u8], marks: &[u8]) -> Result<(), Fail> {
         let ones = [1; 8];
         let count = self.task.actions;
         check(count <= 8)?;
@@ -127,7 +132,7 @@ fn clear(bytes: &[u8]) -> bool {
 }
 
 // The atoms of the bytes, as far as there is room.
-pub fn atoms<const N: usize>(bytes: &[u8]) -> Atoms<N> {
+pub(crate) fn atoms<const N: usize>(bytes: &[u8]) -> Atoms<N> {
     let mut list = Atoms::none();
     let mut left = bytes;
     while let [variable, value, rest @ ..] = left {
@@ -140,7 +145,7 @@ pub fn atoms<const N: usize>(bytes: &[u8]) -> Atoms<N> {
     list
 }
 
-pub fn action(conditions: &[u8], effects: &[u8]) -> Action {
+pub(crate) fn action(conditions: &[u8], effects: &[u8]) -> Action {
     Action {
         tenths: 1,
         presses: 1,
@@ -150,7 +155,7 @@ pub fn action(conditions: &[u8], effects: &[u8]) -> Action {
 }
 
 // The values, and 0 past them.
-pub fn setting(values: &[u8]) -> Setting {
+pub(crate) fn setting(values: &[u8]) -> Setting {
     let mut all = [0; 64];
     for (place, value) in all.iter_mut().zip(values) {
         *place = *value;

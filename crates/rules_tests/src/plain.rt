@@ -122,7 +122,7 @@ fn bytes_of(values: Row) -> ([u8; 8], usize) {
 }
 
 // Makes a bench of eight actions and a setting from a number, compares, and answers the next number.
-pub fn compare(seed: u32) -> Result<u32, Fail> {
+pub(crate) fn compare(seed: u32) -> Result<u32, Fail> {
     let mut seed = next(seed);
     let goal = some_row(seed);
     let mut steps = [made_step(seed); 8];

@@ -294,18 +294,19 @@ fn settle<T: Tariff>(
     }
 }
 
-// One search over these rows and this queue, advanced by so many steps at once.
+// One search over these rows and this queue, advanced by so many steps at once; the planner is at rest again
+// afterwards.
 fn search_over<T: Tariff, R: Rule>(
     tariff: &T,
     rule: &R,
-    task: Task,
+    rest: Rest,
     actions: &[Action],
     start: Setting,
     bound: T::Charge,
     rows: &mut [Row<T::Charge>],
     queue: &mut [Entry<T::Charge>],
     steps: usize,
-) -> (Told<T::Charge>, Walked) {
+) -> (Rest, Told<T::Charge>, Walked) {
     let mut plan = [9; 64];
     let mut marks = [9; 8];
     let mut work = [9; 4096];
@@ -317,12 +318,11 @@ fn search_over<T: Tariff, R: Rule>(
         marks: &mut marks,
         work: &mut work,
     };
-    let search = match begin(tariff, Rest::new(task), lent, start, bound) {
+    let search = match begin(tariff, rest, lent, start, bound) {
         Ok(search) => search,
         Err(refused) => {
             let Refused { phase, refusal } = refused;
-            let _ = phase.into_task();
-            return (Told::Refused(refusal.number(), refusal.place), none);
+            return (phase, Told::Refused(refusal.number(), refusal.place), none);
         }
     };
     let lent = Tables {
@@ -333,15 +333,11 @@ fn search_over<T: Tariff, R: Rule>(
         work: &mut work,
     };
     match advance(tariff, rule, actions, search, lent, steps) {
-        Ok(advanced) => {
-            let (rest, told, walked) = settle(tariff, actions, &plan, advanced);
-            let _ = rest.into_task();
-            (told, walked)
-        }
+        Ok(advanced) => settle(tariff, actions, &plan, advanced),
         Err(refused) => {
             let Refused { phase, refusal } = refused;
-            let _ = phase.abandon().into_task();
-            (Told::Refused(refusal.number(), refusal.place), none)
+            let told = Told::Refused(refusal.number(), refusal.place);
+            (phase.abandon(), told, none)
         }
     }
 }
@@ -357,28 +353,39 @@ fn searched<T: Tariff<Charge = u64>, R: Rule>(
     places: usize,
     steps: usize,
 ) -> (Told<u64>, Walked) {
-    let row = Row {
-        setting: [7; 64],
-        charge: 9,
-        closed: false,
-        origin: 9,
-        action: 9,
-    };
-    let waiting = Waiting { charge: 9, row: 9 };
-    let mut rows = [row; 64];
-    let mut queue = [Entry { waiting, place: 9 }; 64];
+    let mut rows = [spare_row(9); 64];
+    let mut queue = [spare_entry(9); 64];
     let part = &mut rows[0..places.min(64)];
-    search_over(
+    let rest = Rest::new(task);
+    let (rest, told, walked) = search_over(
         tariff,
         rule,
-        task,
+        rest,
         actions,
         start,
         bound,
         part,
         &mut queue,
         steps,
-    )
+    );
+    let _ = rest.into_task();
+    (told, walked)
+}
+
+// What a table may hold before a search.
+fn spare_row<C: Copy>(charge: C) -> Row<C> {
+    Row {
+        setting: [7; 64],
+        charge,
+        closed: false,
+        origin: 9,
+        action: 9,
+    }
+}
+
+fn spare_entry<C: Copy>(charge: C) -> Entry<C> {
+    let waiting = Waiting { charge, row: 9 };
+    Entry { waiting, place: 9 }
 }
 
 fn blank() -> Action {
@@ -482,23 +489,13 @@ fn fork() -> Result<(), Fail> {
         presses: 0,
         tenths: 0,
     };
-    let row = Row {
-        setting: [7; 64],
-        charge: zero,
-        closed: false,
-        origin: 9,
-        action: 9,
-    };
-    let waiting = Waiting {
-        charge: zero,
-        row: 9,
-    };
-    let mut rows = [row; 3];
-    let mut queue = [Entry { waiting, place: 9 }; 3];
-    let (told, walk) = search_over(
+    let mut rows = [spare_row(zero); 3];
+    let mut queue = [spare_entry(zero); 3];
+    let rest = Rest::new(task);
+    let (rest, told, walk) = search_over(
         &Presses,
         &Atoms,
-        task,
+        rest,
         &table,
         start,
         bound,
@@ -506,6 +503,7 @@ fn fork() -> Result<(), Fail> {
         &mut queue,
         3,
     );
+    let _ = rest.into_task();
     check(
         match told {
             Told::Found(charge, 2) => charge.presses == 1 && charge.tenths == 10,
@@ -534,4 +532,50 @@ fn fork() -> Result<(), Fail> {
         searched(&Time, &Atoms, task, &table[0..2], start, 10, 3, 3),
         (Told::Refused(21, 1), none),
     )
+}
+
+// Several searches by one planner over the same tables, refused calls among them.
+#[test]
+fn one_list() -> Result<(), Fail> {
+    let mut table = [blank(); 5];
+    let Ok(task) = read(&KEYPAD, &mut table) else {
+        return Err(Fail::new("the book is lawful"));
+    };
+    let mut start = [0; 64];
+    start[1] = 1;
+    let mut outside = [0; 64];
+    outside[5] = 1;
+    let mut all_rows = [spare_row(9); 8];
+    let mut all_queue = [spare_entry(9); 8];
+    let rows = &mut all_rows[..];
+    let queue = &mut all_queue[..];
+    let cases = [
+        (start, 23, 8, Told::Found(23, 7)),
+        (outside, 23, 8, Told::Refused(30, 5)),
+        (start, 22, 8, Told::NoPlan(7)),
+        (start, 23, 3, Told::Working(3)),
+        (start, 0, 1, Told::NoPlan(1)),
+        (start, 23, 8, Told::Found(23, 7)),
+    ];
+    let mut rest = Rest::new(task);
+    let mut wrong = 0u8;
+    for (from, bound, steps, expected) in &cases {
+        let (next, told, _) = search_over(
+            &Time,
+            &Atoms,
+            rest,
+            &table,
+            *from,
+            *bound,
+            &mut *rows,
+            &mut *queue,
+            *steps,
+        );
+        if told != *expected {
+            wrong = wrong.saturating_add(1);
+        }
+        rest = next;
+    }
+    let _ = rest.into_task();
+    check_eq(wrong, 0)
 }
