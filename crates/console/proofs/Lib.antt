@@ -1,0 +1,3 @@
+pub mod Smalls
+pub mod Values
+pub mod Lefts
