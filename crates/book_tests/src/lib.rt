@@ -1,4 +1,5 @@
 // Books, what they read to, and what is written of that.
+#![tactic(auto)]
 
 #[cfg(test)]
 mod maker;

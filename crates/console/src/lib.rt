@@ -1,4 +1,5 @@
 // The console: a bench, asked line by line.
+#![tactic(auto)]
 mod command;
 mod lines;
 mod output;

@@ -1,4 +1,5 @@
 // Rules on benches whose marks are worked out by hand or by a plain closure.
+#![tactic(auto)]
 
 #[cfg(test)]
 mod maker;

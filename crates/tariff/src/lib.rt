@@ -1,4 +1,5 @@
 // Tariffs: what an action costs, and what a row of actions costs together.
+#![tactic(auto)]
 ghost use Rattle.std.specs.Prelude.{◌≡◌, ◌≤◌, map, length, None};
 ghost use Rattle.task.specs.Benches.{act_of};
 ghost use Rattle.tariff.specs.Charges.{Charges};

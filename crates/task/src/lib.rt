@@ -1,4 +1,6 @@
 // Atoms, actions, settings and benches: the data, and what it means.
+#![tactic(auto)]
+
 ghost use Rattle.std.specs.Prelude.{◌≡◌, ◌≤◌, [], ◌∷◌, ◌++◌, length, take, if◌then◌else◌, nat_lt, slice_index_or};
 ghost use Rattle.task.specs.Settings.{listed, holding, met, unmet, assigned, sibling, some_atom, clash, outside};
 ghost use Rattle.task.specs.Benches.{act_of, interfering, alike, achieving};

@@ -1,4 +1,5 @@
 // Walks: a list of actions, done one after another from a start setting.
+#![tactic(auto)]
 ghost use Rattle.std.specs.Prelude.{◌≡◌, ◌≤◌, [], ◌∷◌, map, length, IfOk, Ok};
 ghost use Rattle.task.specs.Benches.{act_of, bench_of};
 ghost use Rattle.tariff.specs.Totals.{SumOfFew, and_act};
