@@ -45,7 +45,7 @@ abbrev pub time : Charges ℕ
 time = record {
   zero = 0;
   plus = ◌+◌;
-  le = leb;
+  le = nat_le;
   charge = λ a. a.tenths;
   le_trans = leb_trans;
   le_total = leb_total;

@@ -1,5 +1,6 @@
 // Tariffs: what an action costs, and what a row of actions costs together.
 #![tactic(auto)]
+
 ghost use Rattle.std.specs.Prelude.{◌≡◌, ◌≤◌, map, length, None};
 ghost use Rattle.task.specs.Benches.{act_of};
 ghost use Rattle.tariff.specs.Charges.{Charges};
@@ -132,7 +133,7 @@ fn add_up<T: Tariff>(
 ) -> Added<T::Charge>
     requires few { length numbers.now ≤ 65536 }
     requires known { stray (length actions.now) 0 numbers.now ≡ None }
-    ensures { result ≡ against (charges tariff.now).le bound (charge_of (charges tariff.now) (map act_of actions.now) numbers.now) }
+    ensures { result ≡ against (T.charges tariff.now).le bound (charge_of (T.charges tariff.now) (map act_of actions.now) numbers.now) }
 {
     let mut sum = tariff.zero();
     for number in numbers {
@@ -151,7 +152,7 @@ pub fn total<T: Tariff>(
     numbers: &[u16],
     bound: T::Charge,
 ) -> Total<T::Charge>
-    ensures { result ≡ totalled (charges tariff.now) (map act_of actions.now) numbers.now bound }
+    ensures { result ≡ totalled (T.charges tariff.now) (map act_of actions.now) numbers.now bound }
 {
     if numbers.len() > 65_536 {
         return Total::TooMany;

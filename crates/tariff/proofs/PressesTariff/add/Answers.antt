@@ -1,4 +1,4 @@
-use Rattle.std.proofs.Common.{◌≡◌, ◌+◌, ◌^◌, ◌<◌, ap, arith, rules}
+use Rattle.std.proofs.Common.{◌+◌, ◌^◌, ◌<◌, ap, arith, rules}
 use Rattle.tariff.specs.declared.charge.Pressed.{Pressed}
 use Rattle.tariff.specs.Presses.{tenths_few}
 use Rattle.tariff.proofs.PressesTariff.add.Goals as goal
