@@ -1,15 +1,14 @@
 -- Laws of the charge of a row of action numbers.
 use Rattle.std.proofs.Common.{◌≡◌, ℕ, zero, suc, ◌+◌, ◌<◌, ◌≤◌, Bool, true, false, cond, ltb, List, [], ◌∷◌, ◌++◌, map, length, get_or, take, drop, Some, None, Option, sym, refl, ap, ◌∙◌, subst, arith}
 use Rattle.std.specs.List.{AllByRecursion as All}
-use Rattle.std.proofs.lemmas.List.{map-append, take_more, take_all, take-append-drop, get_or-map, length-map, length-take, at_drop_more, at_drop_all}
-use Rattle.std.proofs.ByRecursion.{All-take}
-use Rattle.std.proofs.lemmas.Bool.{ltb-true, ltb-false, lt-ltb, le-ltb, cond-true, cond-false}
+use Rattle.std.proofs.lemmas.List.{map-append, take_more, take_all, take-append-drop, get_or-map, length-map, length-take}
+use Rattle.std.proofs.lemmas.Bool.{ltb-true, le-ltb, cond-true, cond-false}
 use Rattle.task.specs.declared.data.Action.{Action}
 use Rattle.task.specs.Benches.{Act, act_of, idle}
 use Rattle.tariff.specs.declared.charge.Added.{Added}
 use Rattle.tariff.specs.declared.charge.Added.TheVariants.{Within, Over}
 use Rattle.tariff.specs.declared.charge.Total.TheVariants.{TooMany}
-use Rattle.tariff.specs.Charges.{Charges, Billable, Reached, summed}
+use Rattle.tariff.specs.Charges.{Charges, Billable}
 use Rattle.tariff.specs.Totals.{SumOfFew, Adding, sum, named, charge_of, and_act, against, stray, unless, totalled}
 
 -- each action of a table may be charged

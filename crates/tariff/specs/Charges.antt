@@ -1,5 +1,5 @@
 -- What a tariff means: a kind of charge, and a charge for each action.
-use Rattle.std.specs.Prelude.{◌≡◌, ℕ, ◌≤◌, Bool, true, ◌||◌, List, [], ◌∷◌, length}
+use Rattle.std.specs.Prelude.{◌≡◌, ◌≤◌, Bool, true, ◌||◌, List, [], ◌∷◌, length}
 use Rattle.std.specs.List.{AllByRecursion as All}
 use Rattle.task.specs.Benches.{Act}
 

@@ -5,7 +5,7 @@ use Rattle.std.specs.List.{AllByRecursion as All}
 use Rattle.std.proofs.lemmas.Bool.{leb-true, ltb-true, ltb-false, eqb-true, eqb-false, le-leb, lt-ltb, le-ltb, eq-eqb, ne_eqb, or_cases, or_left, or_right, and_parts, and_from, cases_order, cases_lt}
 use Rattle.task.specs.Benches.{Act}
 use Rattle.tariff.specs.declared.charge.Pressed.{Pressed}
-use Rattle.tariff.specs.Charges.{Charges, Reached, Billable, summed}
+use Rattle.tariff.specs.Charges.{Charges, Billable, summed}
 use Rattle.tariff.specs.Time.{leb_plus, most_tenths}
 
 abbrev pub pressed : ℕ → ℕ → Pressed
@@ -96,15 +96,6 @@ pub tenths_few : (acts : List Act) → All Billable acts → (summed (pressed 0 
 tenths_few [] all = omega arith
 tenths_few (a ∷ more) all = let rest = tenths_few more all.1 in let one = all.0.0 in omega arith
 
-pub presses_enough : (c : Pressed) → Reached (pressed 0 0) both presses_of c → upto c (pressed most_presses most_tenths) ≡ true
-presses_enough c reached =
-    let least_presses = presses_few reached.acts reached.billable in
-    let least_tenths = tenths_few reached.acts reached.billable in
-    let few = reached.few in
-    let presses_is = ap (λ (p : Pressed). p.presses) reached.is in
-    let tenths_is = ap (λ (p : Pressed). p.tenths) reached.is in
-    each_upto c (pressed most_presses most_tenths) (omega arith) (omega arith)
-
 abbrev pub pressing : Charges Pressed
 pressing = record {
   zero = pressed 0 0;
@@ -120,5 +111,11 @@ pressing = record {
   zero_le = λ a. each_upto (pressed 0 0) a (omega arith) (omega arith);
   le_plus = upto_both;
   greatest = pressed most_presses most_tenths;
-  enough = presses_enough;
+  enough = λ c reached.
+      let least_presses = presses_few reached.acts reached.billable in
+      let least_tenths = tenths_few reached.acts reached.billable in
+      let few = reached.few in
+      let presses_is = ap (λ (p : Pressed). p.presses) reached.is in
+      let tenths_is = ap (λ (p : Pressed). p.tenths) reached.is in
+      each_upto c (pressed most_presses most_tenths) (omega arith) (omega arith);
 }

@@ -1,10 +1,10 @@
 -- The tariff "Time": tenths of a second.
-use Rattle.std.specs.Prelude.{◌≡◌, ℕ, ◌+◌, ◌*◌, ◌<◌, ◌≤◌, Bool, true, false, ◌||◌, List, [], ◌∷◌, length, nat_le, refl}
-use Rattle.std.proofs.Common.{sym, ap, ◌∙◌, add_assoc, add_comm, zero-add, arith}
+use Rattle.std.specs.Prelude.{◌≡◌, ℕ, ◌+◌, ◌*◌, ◌≤◌, Bool, true, false, ◌||◌, List, [], ◌∷◌, length, nat_le, refl}
+use Rattle.std.proofs.Common.{sym, ◌∙◌, add_assoc, add_comm, zero-add, arith}
 use Rattle.std.specs.List.{AllByRecursion as All}
 use Rattle.std.proofs.lemmas.Bool.{leb-true, leb-false, le-leb, lt-leb, or_left, or_right}
 use Rattle.task.specs.Benches.{Act}
-use Rattle.tariff.specs.Charges.{Charges, Reached, Billable, summed}
+use Rattle.tariff.specs.Charges.{Charges, Billable, summed}
 
 -- what 65,536 actions take at most
 abbrev pub most_tenths : ℕ
@@ -34,13 +34,6 @@ pub tenths_few : (acts : List Act) → All Billable acts → summed 0 ◌+◌ (�
 tenths_few [] all = omega arith
 tenths_few (a ∷ more) all = let rest = tenths_few more all.1 in let one = all.0.0 in omega arith
 
-pub time_enough : (c : ℕ) → Reached 0 ◌+◌ (λ a. a.tenths) c → nat_le c most_tenths ≡ true
-time_enough c reached =
-    let least = tenths_few reached.acts reached.billable in
-    let few = reached.few in
-    let is = reached.is in
-    le-leb c most_tenths (omega arith)
-
 abbrev pub time : Charges ℕ
 time = record {
   zero = 0;
@@ -56,5 +49,9 @@ time = record {
   zero_le = λ a. le-leb 0 a (omega arith);
   le_plus = leb_plus;
   greatest = most_tenths;
-  enough = time_enough;
+  enough = λ c reached.
+      let least = tenths_few reached.acts reached.billable in
+      let few = reached.few in
+      let is = reached.is in
+      le-leb c most_tenths (omega arith);
 }

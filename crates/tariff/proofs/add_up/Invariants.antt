@@ -1,4 +1,4 @@
-use Rattle.std.proofs.Common.{◌≡◌, ◌≤◌, true, map, length, take}
+use Rattle.std.proofs.Common.{◌≡◌, true, map, take}
 use Rattle.task.specs.Benches.{act_of}
 use Rattle.tariff.specs.Totals.{charge_of}
 use Rattle.tariff.proofs.add_up.Given as goal
