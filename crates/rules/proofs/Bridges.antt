@@ -1,25 +1,25 @@
 -- What a member calls for, by actions and by atoms.
-use Rattle.std.proofs.Common.{◌≡◌, ℕ, ◌+◌, ◌*◌, ◌<◌, ◌≤◌, Bool, true, false, cond, not, ◌&&◌, ◌||◌, eqb, ltb, leb, ◌⊎◌, List, [], ◌∷◌, length, get_or, take, Some, None, Option, sym, refl, ap, ◌∙◌, subst, inl, inr, arith}
+use Rattle.std.proofs.Common.{◌≡◌, ℕ, ◌+◌, ◌*◌, ◌<◌, ◌≤◌, Bool, true, false, cond, not, ◌&&◌, ◌||◌, eqb, ltb, leb, List, [], ◌∷◌, length, get_or, Some, None, Option, sym, refl, ap, ◌∙◌, subst, inl, inr, arith}
 use Rattle.std.proofs.lemmas.List.{get_or-take, length-take}
-use Rattle.std.specs.List.{AllByRecursion as All}
+use Rattle.std.specs.List.{AllByRecursion}
 use Rattle.std.proofs.ByRecursion.{All-get_or, All-weaker}
-use Rattle.std.proofs.lemmas.Bool.{both_ways, not-true, and_parts, and_from, or_cases, or_left, or_right, leb-true, ltb-true, le-leb, lt-ltb, eqb-true, eqb-false, eq-eqb, ne_eqb, not_from_false}
+use Rattle.std.proofs.lemmas.Bool.{not-true, and_parts, and_from, or_cases, or_left, or_right, leb-true, ltb-true, le-leb, lt-ltb, eqb-true, eqb-false, eq-eqb, ne_eqb, not_from_false}
 use Rattle.task.specs.declared.data.Atom.{Atom}
 use Rattle.task.specs.declared.data.Action.{Action}
 use Rattle.task.specs.declared.data.Task.{Task}
 use Rattle.task.specs.Settings.{holding, unmet, listed, sibling, some_atom, clash}
-use Rattle.task.specs.Benches.{Act, Bench, idle, act, act_of, bench_of, alike, achieving, interfering, Inside, LawfulAct, Lawful}
+use Rattle.task.specs.Benches.{Act, Bench, idle, act, bench_of, alike, achieving, Inside, LawfulAct, Lawful}
 use Rattle.rules.specs.Marks.{Marked, Zeros}
 use Rattle.rules.specs.Rules.{Sized}
 use Rattle.rules.specs.Sets.{wants, called, calls, stubborn}
 use Rattle.rules.specs.Grows.{stubborn_smallest, closed_along}
-use Rattle.rules.specs.Queues.{act_at, calling}
-use Rattle.rules.specs.Waits.{place, due, beside, asks, asking, touches, Wrote, Covers, Waiting, Swept}
+use Rattle.rules.specs.Queues.{act_at}
+use Rattle.rules.specs.Waits.{place, beside, asks, touches, Wrote, Covers, Waiting, Swept}
 use Rattle.rules.proofs.Closings.{within, marks_are, bench_length, bench_act, bench_calls}
-use Rattle.rules.proofs.Passes.{Found, find, due_from}
+use Rattle.rules.proofs.Passes.{find, due_from}
 use Rattle.rules.proofs.Writes.{wrote_new}
 
-unmet_among : (P : Atom → Type 0) (s : List ℕ) (cs : List Atom) (c : Atom) → All P cs → unmet s cs ≡ Some c → P c
+unmet_among : (P : Atom → Type 0) (s : List ℕ) (cs : List Atom) (c : Atom) → AllByRecursion P cs → unmet s cs ≡ Some c → P c
 unmet_among P s [] c all e = absurd (let z : ◌≡◌ {A = ℕ} 0 1 = cc in omega arith)
 unmet_among P s (d ∷ cs) c all e = by (holding s d) (unmet_among P s cs c all.1) e
   where
@@ -34,8 +34,8 @@ module _ (sizes : List ℕ) where
   Small a = (a.variable < 64) × (a.value < 32) × (a.value < get_or sizes a.variable 0) × (get_or sizes a.variable 0 ≤ 32)
 
   record SmallAct (a : Act) : Type 0 where
-    conditions : All Small a.conditions
-    effects : All Small a.effects
+    conditions : AllByRecursion Small a.conditions
+    effects : AllByRecursion Small a.effects
 
   module _ (b : Bench) (lawful : Lawful b) (same : (v : ℕ) → v < length b.sizes → get_or b.sizes v 0 ≡ get_or sizes v 0) where
     small : (a : Atom) → Inside b.sizes a → Small a
@@ -49,7 +49,7 @@ module _ (sizes : List ℕ) where
         let l = All-get_or (LawfulAct b.sizes) b.actions k idle low lawful.acts in
         record { conditions = All-weaker (Inside b.sizes) Small small (act b k).conditions l.conditions_inside; effects = All-weaker (Inside b.sizes) Small small (act b k).effects l.effects_inside }
 
-    small_goal : All Small b.goal
+    small_goal : AllByRecursion Small b.goal
     small_goal = All-weaker (Inside b.sizes) Small small b.goal lawful.goal_inside
 
   -- siblings lie beside each other in a collection
@@ -102,7 +102,7 @@ module _ (sizes : List ℕ) where
       ]
 
   -- an effect of one lies beside an atom of the other
-  effect_clash : (a : Act) (cs : List Atom) (x : ℕ) → SmallAct a → All Small cs → some_atom (λ c. beside sizes 0 c x) cs ≡ true → touches a x ≡ true → clash a.effects cs ≡ true
+  effect_clash : (a : Act) (cs : List Atom) (x : ℕ) → SmallAct a → AllByRecursion Small cs → some_atom (λ c. beside sizes 0 c x) cs ≡ true → touches a x ≡ true → clash a.effects cs ≡ true
   effect_clash a cs x small near h t =
       let g = find Small (λ c. beside sizes 0 c x) cs near h in
       let p = beside_parts 0 g.atom x g.passes in
@@ -111,7 +111,7 @@ module _ (sizes : List ℕ) where
         | inr q ↦ (let f = find Small (λ c. eqb (place 2048 c) x) a.conditions small.conditions q in let i = eqb-true _ _ f.passes in absurd (omega (arith, g.holds.0, g.holds.3, p.under)))
       ]
 
-  condition_clash : (a : Act) (es : List Atom) (x : ℕ) → SmallAct a → some_atom (λ e. beside sizes 2048 e x) es ≡ true → All Small es → touches a x ≡ true → clash es a.conditions ≡ true
+  condition_clash : (a : Act) (es : List Atom) (x : ℕ) → SmallAct a → some_atom (λ e. beside sizes 2048 e x) es ≡ true → AllByRecursion Small es → touches a x ≡ true → clash es a.conditions ≡ true
   condition_clash a es x small h near t =
       let g = find Small (λ e. beside sizes 2048 e x) es near h in
       let p = beside_parts 2048 g.atom x g.passes in
@@ -139,7 +139,7 @@ module _ (sizes : List ℕ) where
     asked : asks sizes o m byte ≡ true
     touched : touches a byte ≡ true
 
-  clash_effect : (a : Act) (cs : List Atom) → SmallAct a → All Small cs → clash a.effects cs ≡ true → (x : ℕ) × (x < 4096) × (some_atom (λ c. beside sizes 0 c x) cs ≡ true) × (touches a x ≡ true)
+  clash_effect : (a : Act) (cs : List Atom) → SmallAct a → AllByRecursion Small cs → clash a.effects cs ≡ true → (x : ℕ) × (x < 4096) × (some_atom (λ c. beside sizes 0 c x) cs ≡ true) × (touches a x ≡ true)
   clash_effect a cs small near h =
       let f = find Small (λ e. some_atom (sibling e) cs) a.effects small.effects h in
       let g = find Small (sibling f.atom) cs near f.passes in
@@ -147,7 +147,7 @@ module _ (sizes : List ℕ) where
       let x = place 0 f.atom in
       (x, omega (arith, f.holds.0, f.holds.1), g.again (λ c. beside sizes 0 c x) (beside_from 0 f.atom g.atom f.holds k.0 k.1), or_left _ _ (f.again (λ e. eqb (place 0 e) x) (eq-eqb _ _ refl)))
 
-  clash_condition : (a : Act) (es : List Atom) → SmallAct a → All Small es → clash es a.conditions ≡ true → (x : ℕ) × (x < 4096) × (some_atom (λ e. beside sizes 2048 e x) es ≡ true) × (touches a x ≡ true)
+  clash_condition : (a : Act) (es : List Atom) → SmallAct a → AllByRecursion Small es → clash es a.conditions ≡ true → (x : ℕ) × (x < 4096) × (some_atom (λ e. beside sizes 2048 e x) es ≡ true) × (touches a x ≡ true)
   clash_condition a es small near h =
       let f = find Small (λ e. some_atom (sibling e) a.conditions) es near h in
       let g = find Small (sibling f.atom) a.conditions small.conditions f.passes in

@@ -1,7 +1,7 @@
 -- Marks that are closed and lie inside the smallest closed set are its marks.
-use Rattle.std.proofs.Common.{◌≡◌, ℕ, ◌<◌, ◌≤◌, Bool, true, false, cond, eqb, ◌⊎◌, List, map, length, get_or, take, sym, refl, ap, ◌∙◌, subst, inl, inr, arith}
+use Rattle.std.proofs.Common.{◌≡◌, ℕ, ◌<◌, ◌≤◌, Bool, true, false, cond, eqb, List, map, length, get_or, sym, refl, ap, ◌∙◌, inl, inr, arith}
 use lib.ListN.{length-map}
-use Rattle.std.specs.List.{AllByRecursion as All}
+use Rattle.std.specs.List.{AllByRecursion}
 use Rattle.std.proofs.ByRecursion.{All-get_or}
 use Rattle.std.proofs.lemmas.List.{length-take-le, get_or-take, get_or_past, take-map}
 use Rattle.std.proofs.lemmas.Bool.{eqb-true, eq-eqb, cases_lt, both_ways}
@@ -18,7 +18,7 @@ use Rattle.rules.specs.Queues.{act_at, calling}
 pub within : (bytes : List ℕ) (k : ℕ) → get_or bytes k 0 ≡ 1 → k < length bytes
 within bytes k e = elim (cases_lt k (length bytes)) [ inl l ↦ l | inr h ↦ absurd (let z = get_or_past bytes k 0 h in omega arith) ]
 
-pub marks_are : (b : Bench) (s : List ℕ) (bytes : List ℕ) → length bytes ≡ length b.actions → All (λ x. x ≤ 1) bytes
+pub marks_are : (b : Bench) (s : List ℕ) (bytes : List ℕ) → length bytes ≡ length b.actions → AllByRecursion (λ x. x ≤ 1) bytes
     → ((i : ℕ) → i < length b.actions → wants (unmet s b.goal) (act b i) ≡ true → get_or bytes i 0 ≡ 1)
     → ((j i : ℕ) → i < length b.actions → get_or bytes j 0 ≡ 1 → calls b s j i ≡ true → get_or bytes i 0 ≡ 1)
     → ((k : ℕ) → k < length bytes → get_or bytes k 0 ≡ 1 → stubborn b s k ≡ true)

@@ -1,6 +1,6 @@
 -- One more in line.
-use Rattle.std.proofs.Common.{◌≡◌, ℕ, ◌+◌, ◌*◌, ◌/◌, ◌%◌, ◌<◌, ◌≤◌, Bool, true, false, eqb, ◌≢◌, ◌⊎◌, List, [], ◌∷◌, length, get_or, set, sum, sym, refl, ap, ◌∙◌, subst, ap₂, inl, inr, arith, length-set, get_or-set_other, get_or-set_same}
-use Rattle.std.specs.List.{AllByRecursion as All}
+use Rattle.std.proofs.Common.{◌≡◌, ℕ, ◌+◌, ◌/◌, ◌%◌, ◌<◌, ◌≤◌, Bool, true, false, eqb, ◌≢◌, List, length, get_or, set, sum, sym, refl, ap, ◌∙◌, subst, inl, inr, arith, length-set, get_or-set_other, get_or-set_same}
+use Rattle.std.specs.List.{AllByRecursion}
 use Rattle.std.proofs.lemmas.Bool.{both_ways, eqb-true, eq-eqb, cases_eq}
 use Rattle.std.proofs.ByRecursion.{All-get_or, All-set, sum_by_le}
 use Rattle.std.proofs.lemmas.List.Sums.{sum_by-set}
@@ -33,7 +33,7 @@ module _ {marks work : List ℕ} {tail number : ℕ} (l : Line marks work tail) 
   more : sum (set marks number 1) ≡ tail + 1
   more = let h = sum_by-set (λ x. x) marks number 1 0 low in omega (arith, l.counted, was)
 
-  bits : All (λ x. x ≤ 1) (set marks number 1)
+  bits : AllByRecursion (λ x. x ≤ 1) (set marks number 1)
   bits = All-set (λ x. x ≤ 1) marks number 1 (omega arith) l.bits
 
   pub tail_room : tail < length marks

@@ -1,6 +1,6 @@
 -- What is due, and passes over the actions.
-use Rattle.std.proofs.Common.{◌≡◌, ℕ, ◌+◌, ◌-◌, ◌<◌, ◌≤◌, Bool, true, false, cond, ◌||◌, eqb, ◌⊎◌, List, [], ◌∷◌, length, get_or, set, sum, sym, refl, ap, ◌∙◌, subst, inl, inr, arith, length-set, get_or-set_other, get_or-set_same}
-use Rattle.std.specs.List.{AllByRecursion as All}
+use Rattle.std.proofs.Common.{◌≡◌, ℕ, ◌+◌, ◌-◌, ◌<◌, ◌≤◌, Bool, true, false, cond, eqb, List, [], ◌∷◌, length, get_or, set, sum, sym, refl, ap, ◌∙◌, subst, inl, inr, arith, length-set, get_or-set_other}
+use Rattle.std.specs.List.{AllByRecursion}
 use Rattle.std.proofs.lemmas.Bool.{both_ways, or_cases, or_left, or_right, eqb-true, eq-eqb, cases_eq, cases_Bool}
 use Rattle.std.proofs.ByRecursion.{All-set, sum_by_le}
 use Rattle.std.proofs.lemmas.List.Sums.{sum_by-set}
@@ -20,7 +20,7 @@ pub record Found (P : Atom → Type 0) (test : Atom → Bool) (atoms : List Atom
   pub passes : test atom ≡ true
   pub again : (other : Atom → Bool) → other atom ≡ true → some_atom other atoms ≡ true
 
-pub find : (P : Atom → Type 0) (test : Atom → Bool) (atoms : List Atom) → All P atoms → some_atom test atoms ≡ true → Found P test atoms
+pub find : (P : Atom → Type 0) (test : Atom → Bool) (atoms : List Atom) → AllByRecursion P atoms → some_atom test atoms ≡ true → Found P test atoms
 find P test [] all e = absurd (both_ways _ refl e)
 find P test (a ∷ more) all e =
     elim (or_cases (test a) (some_atom test more) e) [
@@ -28,7 +28,7 @@ find P test (a ∷ more) all e =
       | inr q ↦ (let f = find P test more all.1 q in record { atom = f.atom; holds = f.holds; passes = f.passes; again = λ other h. or_right _ _ (f.again other h) })
     ]
 
-plain : (atoms : List Atom) → All (λ _. Unit {0}) atoms
+plain : (atoms : List Atom) → AllByRecursion (λ _. Unit {0}) atoms
 plain [] = tt
 plain (a ∷ more) = (tt, plain more)
 
@@ -79,7 +79,7 @@ module _ (sizes s : List ℕ) (table : List Action) where
           ];
     }
 
-  pub passed_none : {marks work : List ℕ} → All (λ x. x ≤ 1) marks → Passed sizes s table 0 marks work false marks work
+  pub passed_none : {marks work : List ℕ} → AllByRecursion (λ x. x ≤ 1) marks → Passed sizes s table 0 marks work false marks work
   passed_none bits = record { as_many = refl; room = refl; bits = bits; keeps = λ root w. w; some = λ e. absurd (both_ways _ refl e); none = λ e. (refl, refl, λ k h. absurd (omega arith)) }
 
   module _ {marks work marks' work' : List ℕ} {more : Bool} (i : ℕ) (p : Passed sizes s table i marks work more marks' work') where
@@ -127,11 +127,11 @@ module _ (sizes s : List ℕ) (table : List Action) where
   pub record Sweeping (marks work : List ℕ) (more : Bool) (marks' work' : List ℕ) : Type 0 where
     pub as_many : length marks' ≡ length marks
     pub room : length work' ≡ length work
-    pub bits : All (λ x. x ≤ 1) marks'
+    pub bits : AllByRecursion (λ x. x ≤ 1) marks'
     pub keeps : (root : ℕ → Bool) → Waiting root sizes s table marks work → Waiting root sizes s table marks' work'
     pub done : more ≡ false → (k : ℕ) → k < length marks → due work' (act_at table k) ≡ true → get_or marks' k 0 ≡ 1
 
-  pub sweeping_none : {marks work : List ℕ} → All (λ x. x ≤ 1) marks → Sweeping marks work true marks work
+  pub sweeping_none : {marks work : List ℕ} → AllByRecursion (λ x. x ≤ 1) marks → Sweeping marks work true marks work
   sweeping_none bits = record { as_many = refl; room = refl; bits = bits; keeps = λ root w. w; done = λ e. absurd (both_ways _ e refl) }
 
   module _ {marks work marks' work' marks'' work'' : List ℕ} {before more : Bool} (g : Sweeping marks work before marks' work') (p : Passed sizes s table (length marks') marks' work' more marks'' work'') where

@@ -1,11 +1,10 @@
 -- Bytes that become 1, one test after another.
-use Rattle.std.proofs.Common.{◌≡◌, ℕ, ◌+◌, ◌*◌, ◌<◌, ◌≤◌, Bool, true, false, cond, not, ◌&&◌, ◌||◌, eqb, ltb, leb, ◌⊎◌, List, [], ◌∷◌, ◌++◌, length, get_or, take, sym, refl, ap, ◌∙◌, subst, inl, inr, arith}
+use Rattle.std.proofs.Common.{◌≡◌, ℕ, ◌+◌, ◌<◌, ◌≤◌, Bool, true, false, cond, ◌||◌, eqb, ◌⊎◌, List, [], ◌∷◌, ◌++◌, length, get_or, take, sym, refl, ap, ◌∙◌, subst, inl, inr, arith}
 use Rattle.std.proofs.lemmas.Bool.Decides.{nat_tests}
-use Rattle.std.proofs.lemmas.Bool.{cond-true}
 use Rattle.std.proofs.lemmas.List.{take_more, take_all}
 use Rattle.task.specs.declared.data.Atom.{Atom}
 use Rattle.task.specs.Settings.{some_atom}
-use Rattle.rules.specs.Waits.{place, beside_below, beside, Wrote}
+use Rattle.rules.specs.Waits.{place, beside_below, Wrote}
 
 pub wrote_none : (test : ℕ → Bool) (work : List ℕ) → ((x : ℕ) → test x ≡ false) → Wrote test work work
 wrote_none test work none = record { as_many = refl; bytes = λ x l. ap (λ b. cond b 1 (get_or work x 0)) (sym (none x)) }

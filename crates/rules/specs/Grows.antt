@@ -1,14 +1,13 @@
 -- The computed set is the smallest closed one.
-use Rattle.std.specs.Prelude.{◌≡◌, ℕ, zero, suc, ◌+◌, ◌<◌, ◌≤◌, Bool, true, false, cond, not, ◌&&◌, ◌||◌, ◌⊎◌, List, [], ◌∷◌, map, length, Some, None, Option, slice_index_or, refl}
+use Rattle.std.specs.Prelude.{◌≡◌, ℕ, zero, suc, ◌+◌, ◌<◌, ◌≤◌, Bool, true, false, cond, ◌&&◌, ◌⊎◌, List, [], ◌∷◌, length, Some, None, Option, slice_index_or, refl}
 use Rattle.std.proofs.Common.{sym, ◌∙◌, ap, subst, inl, inr, arith}
-use Rattle.std.specs.List.{range_with_len}
 use Rattle.std.proofs.lemmas.List.FromFn.{length-map-range_with_len, get_or-map-range_with_len}
 use Rattle.std.proofs.lemmas.List.{get_or_past}
 use Rattle.std.proofs.lemmas.Bool.{and_parts, and_from, or_cases, or_left, or_right, cases_Bool, cases_eq, cases_lt, both_ways}
 use Rattle.task.specs.declared.data.Atom.{Atom}
-use Rattle.task.specs.Settings.{holding, met, unmet, some_atom, clash}
-use Rattle.task.specs.Benches.{Act, Bench, act, idle, alike, achieving, interfering}
-use Rattle.rules.specs.Sets.{Closed, Smallest, wants, called, calls, some_below, each, grow, grown, stubborn}
+use Rattle.task.specs.Settings.{holding, met, unmet, clash}
+use Rattle.task.specs.Benches.{Act, Bench, act, idle, achieving, interfering}
+use Rattle.rules.specs.Sets.{Closed, Smallest, wants, called, calls, some_below, each, grown, stubborn}
 
 some_from : (f : ℕ → Bool) (k j : ℕ) → j < k → f j ≡ true → some_below f k ≡ true
 some_from f zero j l e = absurd (omega arith)

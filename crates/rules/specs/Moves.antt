@@ -1,15 +1,15 @@
 -- A closed set prunes: its first action in a plan can be moved to the front.
-use Rattle.std.specs.Prelude.{◌≡◌, ℕ, Bool, true, false, cond, not, ◌&&◌, ◌||◌, ◌⊎◌, List, [], ◌∷◌, ◌++◌, length, set, Some, None, Option, ◌≢◌, nat_lt, slice_index, slice_set, refl}
-use Rattle.std.proofs.Common.{sym, ◌∙◌, ap, subst, inl, inr, arith, get_or-set_same, get_or-set_other}
+use Rattle.std.specs.Prelude.{◌≡◌, ℕ, Bool, true, false, ◌||◌, ◌⊎◌, List, [], ◌∷◌, ◌++◌, length, Some, ◌≢◌, nat_lt, slice_index, slice_set, refl}
+use Rattle.std.proofs.Common.{sym, ◌∙◌, ap, subst, inl, inr, get_or-set_same, get_or-set_other}
 use mathlib.Core.List.Permᴰ
 use mathlib.Core.List.{Permᴰ}
 use Rattle.std.proofs.lemmas.List.{set_comm}
 use Rattle.std.proofs.Math.Seq.{set_out}
-use Rattle.std.proofs.lemmas.Bool.{and_parts, and_from, or_parts, or_from, eqb-true, eqb-false, eq-eqb, ne_eqb, cases_lt, cases_eq, cases_Bool, both_ways}
-use Rattle.std.specs.List.{AllByRecursion as All}
+use Rattle.std.proofs.lemmas.Bool.{and_parts, and_from, or_parts, or_from, eq-eqb, ne_eqb, cases_lt, cases_eq, both_ways}
+use Rattle.std.specs.List.{AllByRecursion}
 use Rattle.task.specs.declared.data.Atom.{Atom}
 use Rattle.task.specs.Settings.{holding, met, unmet, assigned, sibling, some_atom, clash}
-use Rattle.task.specs.Benches.{Act, Bench, act, alike, achieving, interfering, World, world, Plan}
+use Rattle.task.specs.Benches.{Bench, act, alike, achieving, interfering, World, world, Plan}
 use Rattle.rules.specs.Marks.{Begun}
 use Rattle.rules.specs.Sets.{Closed}
 
@@ -109,7 +109,7 @@ contra : (x y : Bool) → y ≡ false → (x ≡ true → y ≡ true) → x ≡ 
 contra true y e f = sym (f refl) ∙ e
 contra false y e f = refl
 
-all_contra : (f g : ℕ → Bool) (plan : List ℕ) → ((i : ℕ) → f i ≡ true → g i ≡ true) → All (λ k. g k ≡ false) plan → All (λ k. f k ≡ false) plan
+all_contra : (f g : ℕ → Bool) (plan : List ℕ) → ((i : ℕ) → f i ≡ true → g i ≡ true) → AllByRecursion (λ k. g k ≡ false) plan → AllByRecursion (λ k. f k ≡ false) plan
 all_contra f g [] h a = tt
 all_contra f g (k ∷ plan) h a = (contra (f k) (g k) a.0 (h k), all_contra f g plan h a.1)
 
@@ -119,14 +119,14 @@ record First (member : ℕ → Bool) (plan : List ℕ) : Type 0 where
   first : ℕ
   back : List ℕ
   is : plan ≡ front ++ first ∷ back
-  outside : All (λ k. member k ≡ false) front
+  outside : AllByRecursion (λ k. member k ≡ false) front
   inside : member first ≡ true
 
-split : (member : ℕ → Bool) (plan : List ℕ) → All (λ k. member k ≡ false) plan ⊎ First member plan
+split : (member : ℕ → Bool) (plan : List ℕ) → AllByRecursion (λ k. member k ≡ false) plan ⊎ First member plan
 split member [] = inl tt
 split member (a ∷ plan) = at (member a) refl (split member plan)
   where
-    at : (b : Bool) → member a ≡ b → All (λ k. member k ≡ false) plan ⊎ First member plan → All (λ k. member k ≡ false) (a ∷ plan) ⊎ First member (a ∷ plan)
+    at : (b : Bool) → member a ≡ b → AllByRecursion (λ k. member k ≡ false) plan ⊎ First member plan → AllByRecursion (λ k. member k ≡ false) (a ∷ plan) ⊎ First member (a ∷ plan)
     at true e r = inr (record { front = []; first = a; back = plan; is = refl; outside = tt; inside = e })
     at false e (inl h) = inl (e, h)
     at false e (inr r) = inr (record { front = a ∷ r.front; first = r.first; back = r.back; is = ap (λ p. a ∷ p) r.is; outside = (e, r.outside); inside = r.inside })
@@ -140,7 +140,7 @@ module _ (b : Bench) where
   end s (k ∷ plan) = end (W.next s k) plan
 
   -- an atom that no action achieves stays off
-  never_made : (s : List ℕ) (plan : List ℕ) (c : Atom) → All (λ k. achieving (act b k) c ≡ false) plan → holding s c ≡ false → holding (end s plan) c ≡ false
+  never_made : (s : List ℕ) (plan : List ℕ) (c : Atom) → AllByRecursion (λ k. achieving (act b k) c ≡ false) plan → holding s c ≡ false → holding (end s plan) c ≡ false
   never_made s [] c a h = h
   never_made s (k ∷ plan) c a h = never_made (W.next s k) plan c a.1 (made_all s (act b k).effects c a.0 h)
 
@@ -153,7 +153,7 @@ module _ (b : Bench) where
   plan_at s (k ∷ front) a back p = plan_at (W.next s k) front a back p.1
 
   -- an action that none before it interferes with, taken first
-  move : (s : List ℕ) (front : List ℕ) (a : ℕ) (back : List ℕ) → W.can s a ≡ true → All (λ k. interfering (act b k) (act b a) ≡ false) front → Plan W s (front ++ a ∷ back) → Plan W s (a ∷ (front ++ back))
+  move : (s : List ℕ) (front : List ℕ) (a : ℕ) (back : List ℕ) → W.can s a ≡ true → AllByRecursion (λ k. interfering (act b k) (act b a) ≡ false) front → Plan W s (front ++ a ∷ back) → Plan W s (a ∷ (front ++ back))
   move s [] a back can apart p = p
   move s (k ∷ front) a back can apart p =
       let A = act b a in
@@ -167,7 +167,7 @@ module _ (b : Bench) where
 
   module _ (s : List ℕ) (member : ℕ → Bool) (closed : Closed b s member) where
     -- a plan from a setting that is no goal setting has an action of the set
-    some_inside : met s b.goal ≡ false → (plan : List ℕ) → Plan W s plan → All (λ k. member k ≡ false) plan → ⊥
+    some_inside : met s b.goal ≡ false → (plan : List ℕ) → Plan W s plan → AllByRecursion (λ k. member k ≡ false) plan → ⊥
     some_inside off plan p out = elim (look s b.goal) [ inl m ↦ both_ways _ off m | inr m ↦ missing m ]
       where
         missing : Missing s b.goal → ⊥
@@ -177,7 +177,7 @@ module _ (b : Bench) where
             (m.among (end s plan) (plan_end s plan p))
 
     -- the first of them is applicable at once
-    ready : (front : List ℕ) (a : ℕ) (back : List ℕ) → All (λ k. member k ≡ false) front → member a ≡ true → Plan W s (front ++ a ∷ back) → met s (act b a).conditions ≡ true
+    ready : (front : List ℕ) (a : ℕ) (back : List ℕ) → AllByRecursion (λ k. member k ≡ false) front → member a ≡ true → Plan W s (front ++ a ∷ back) → met s (act b a).conditions ≡ true
     ready front a back out ins p = elim (look s (act b a).conditions) [ inl m ↦ m | inr m ↦ absurd (missing m) ]
       where
         missing : Missing s (act b a).conditions → ⊥

@@ -1,6 +1,6 @@
 -- Members in the order in which they joined, each with its number in two work bytes.
-use Rattle.std.specs.Prelude.{◌≡◌, ℕ, ◌+◌, ◌*◌, ◌/◌, ◌%◌, ◌<◌, ◌≤◌, Bool, true, ◌⊎◌, List, map, length, set, sum, slice_index, slice_index_or, slice_set}
-use Rattle.std.specs.List.{AllByRecursion as All}
+use Rattle.std.specs.Prelude.{◌≡◌, ℕ, ◌+◌, ◌*◌, ◌/◌, ◌%◌, ◌<◌, ◌≤◌, Bool, true, ◌⊎◌, List, map, length, sum, slice_index, slice_index_or, slice_set}
+use Rattle.std.specs.List.{AllByRecursion}
 use Rattle.task.specs.declared.data.Action.{Action}
 use Rattle.task.specs.Settings.{unmet}
 use Rattle.task.specs.Benches.{Act, act_of, idle}
@@ -21,7 +21,7 @@ lined_up work p number = slice_set (slice_set work p (number % 256)) (2048 + p) 
 pub record Line (marks work : List ℕ) (tail : ℕ) : Type 0 where
   pub room : length work ≡ 4096
   pub few : length marks ≤ 1024
-  pub bits : All (λ x. x ≤ 1) marks
+  pub bits : AllByRecursion (λ x. x ≤ 1) marks
   pub counted : tail ≡ sum marks
   pub listed : (k : ℕ) → k < length marks → slice_index marks k ≡ 1 → (p : ℕ) × (p < tail) × (number_at work p ≡ k)
   pub valid : (p : ℕ) → p < tail → (number_at work p < length marks) × (slice_index marks (number_at work p) ≡ 1)
@@ -43,7 +43,7 @@ calling s table j i = called (unmet s (act_at table j).conditions) (act_at table
 -- the marked actions have become the smallest set that holds them and what its members call for
 pub record Spread (call : ℕ → ℕ → Bool) (marks marks' : List ℕ) : Type 0 where
   pub as_many : length marks' ≡ length marks
-  pub bits : All (λ x. x ≤ 1) marks'
+  pub bits : AllByRecursion (λ x. x ≤ 1) marks'
   pub stay : (k : ℕ) → slice_index marks k ≡ 1 → slice_index marks' k ≡ 1
   pub along : (j i : ℕ) → i < length marks → slice_index marks' j ≡ 1 → call j i ≡ true → slice_index marks' i ≡ 1
   pub least : (member : ℕ → Bool) → ((k : ℕ) → slice_index marks k ≡ 1 → member k ≡ true) → ((j i : ℕ) → j < length marks → i < length marks → member j ≡ true → call j i ≡ true → member i ≡ true) → (k : ℕ) → k < length marks → slice_index marks' k ≡ 1 → member k ≡ true

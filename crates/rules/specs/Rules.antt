@@ -1,13 +1,13 @@
 -- What the rules mark: every action, or the smallest closed set.
 use Rattle.std.specs.Prelude.{◌≡◌, ℕ, ◌≤◌, Bool, true, false, List, [], ◌∷◌, length, replicate, Some, nat_lt, refl}
 use mathlib.Core.List.Permᴰ
-use Rattle.std.specs.List.{AllByRecursion as All}
+use Rattle.std.specs.List.{AllByRecursion}
 use Rattle.std.proofs.Common.{arith}
 use Rattle.task.specs.declared.data.Atom.{Atom}
 use Rattle.task.specs.declared.data.Action.{Action}
 use Rattle.task.specs.declared.data.Task.{Task}
 use Rattle.task.specs.Settings.{holding, met, unmet}
-use Rattle.task.specs.Benches.{Act, Bench, World, world, Plan, Rising, Lawful, SettingOf}
+use Rattle.task.specs.Benches.{Bench, world, Plan, Rising, Lawful, SettingOf}
 use Rattle.rules.specs.Marks.{Begun, Marking}
 use Rattle.rules.specs.Sets.{Closed, Smallest, stubborn}
 use Rattle.rules.specs.Moves.{closed_begins}
@@ -60,6 +60,6 @@ keypad_start = 0 ∷ 1 ∷ replicate 62 0
 pub record Prunes : Type 0 where
   pub smallest : (b : Bench) (s : List ℕ) → Smallest b s (stubborn b s)
   pub none : (b : Bench) (s : List ℕ) → met s b.goal ≡ true → (k : ℕ) → stubborn b s k ≡ false
-  pub lowest : (s : List ℕ) (atoms : List Atom) (c : Atom) → Rising atoms → unmet s atoms ≡ Some c → (holding s c ≡ false) × All (λ d. holding s d ≡ false → c.variable ≤ d.variable) atoms
+  pub lowest : (s : List ℕ) (atoms : List Atom) (c : Atom) → Rising atoms → unmet s atoms ≡ Some c → (holding s c ≡ false) × AllByRecursion (λ d. holding s d ≡ false → c.variable ≤ d.variable) atoms
   pub begins : (b : Bench) (s : List ℕ) (member : ℕ → Bool) → Closed b s member → (world b).goal s ≡ false → (plan : List ℕ) → Plan (world b) s plan → Begun (world b) member s plan
   pub example : (k : ℕ) → stubborn keypad keypad_start k ≡ nat_lt k 4

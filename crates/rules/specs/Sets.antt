@@ -1,5 +1,5 @@
 -- The set of actions that prunes a setting: the smallest closed one, and how it is computed.
-use Rattle.std.specs.Prelude.{◌≡◌, ℕ, zero, suc, Bool, true, false, ◌&&◌, ◌||◌, List, [], ◌∷◌, map, length, Some, None, Option, slice_index_or}
+use Rattle.std.specs.Prelude.{◌≡◌, ℕ, zero, suc, Bool, true, false, ◌&&◌, ◌||◌, List, map, length, Some, None, Option, slice_index_or}
 use Rattle.std.specs.List.{range_with_len}
 use Rattle.task.specs.declared.data.Atom.{Atom}
 use Rattle.task.specs.Settings.{met, unmet}

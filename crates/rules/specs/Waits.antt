@@ -1,7 +1,7 @@
 -- Atoms that wait, each with a byte in two collections: from 0 on those whose achievers are called for,
 -- and from 2,048 on those whose dependers are.
-use Rattle.std.specs.Prelude.{◌≡◌, ℕ, ◌+◌, ◌*◌, ◌<◌, ◌≤◌, Bool, true, false, cond, not, ◌&&◌, ◌||◌, List, length, set, Some, None, sum, Option, ◌==◌, nat_eq, nat_le, nat_lt, slice_index, slice_set}
-use Rattle.std.specs.List.{AllByRecursion as All}
+use Rattle.std.specs.Prelude.{◌≡◌, ℕ, ◌+◌, ◌*◌, ◌<◌, ◌≤◌, Bool, true, false, cond, not, ◌&&◌, ◌||◌, List, length, Some, None, sum, Option, ◌==◌, nat_eq, nat_le, nat_lt, slice_index, slice_set}
+use Rattle.std.specs.List.{AllByRecursion}
 use Rattle.task.specs.declared.data.Atom.{Atom}
 use Rattle.task.specs.declared.data.Action.{Action}
 use Rattle.task.specs.Settings.{unmet, some_atom}
@@ -65,7 +65,7 @@ Handled sizes s a number marks work marks' work' false = (marks' ≡ marks) × (
 pub record Passed (sizes s : List ℕ) (table : List Action) (below : ℕ) (marks work : List ℕ) (more : Bool) (marks' work' : List ℕ) : Type 0 where
   pub as_many : length marks' ≡ length marks
   pub room : length work' ≡ length work
-  pub bits : All (λ x. x ≤ 1) marks'
+  pub bits : AllByRecursion (λ x. x ≤ 1) marks'
   pub keeps : (root : ℕ → Bool) → Waiting root sizes s table marks work → Waiting root sizes s table marks' work'
   pub some : more ≡ true → sum marks < sum marks'
   pub none : more ≡ false → (marks' ≡ marks) × (work' ≡ work) × ((k : ℕ) → k < below → due work (act_at table k) ≡ true → slice_index marks k ≡ 1)
@@ -74,6 +74,6 @@ pub record Passed (sizes s : List ℕ) (table : List Action) (below : ℕ) (mark
 pub record Swept (sizes s : List ℕ) (table : List Action) (marks work marks' work' : List ℕ) : Type 0 where
   pub as_many : length marks' ≡ length marks
   pub room : length work' ≡ length work
-  pub bits : All (λ x. x ≤ 1) marks'
+  pub bits : AllByRecursion (λ x. x ≤ 1) marks'
   pub keeps : (root : ℕ → Bool) → Waiting root sizes s table marks work → Waiting root sizes s table marks' work'
   pub all : (k : ℕ) → k < length marks → due work' (act_at table k) ≡ true → slice_index marks' k ≡ 1

@@ -1,5 +1,6 @@
 // Pruning rules: which actions a search needs to try in a setting.
 #![tactic(auto)]
+
 ghost use Rattle.std.specs.Prelude.{◌≡◌, ℕ, ◌<◌, length, Decides, slice_index};
 ghost use Rattle.task.specs.Benches.{bench_of};
 ghost use Rattle.rules.specs.Marks.{Marking, Marked, Zeros, Asked};

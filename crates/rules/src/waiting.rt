@@ -1,6 +1,6 @@
 // Atoms that wait in the work bytes, and the passes over the actions that serve them.
 ghost use Rattle.std.specs.Prelude.{◌≡◌, ◌<◌, ◌≤◌, length, None, nat_eq, slice_index};
-ghost use Rattle.std.specs.List.{AllByRecursion as All};
+ghost use Rattle.std.specs.List.{AllByRecursion};
 ghost use Rattle.task.specs.Settings.{unmet, some_atom};
 ghost use Rattle.task.specs.Benches.{act_of};
 ghost use Rattle.rules.specs.Waits.{place, waits, due, beside, asks, Wrote, Handled, Passed, Swept};
@@ -123,7 +123,7 @@ fn handle(
     marks: &mut [u8],
     work: &mut [u8],
 ) -> bool
-    requires { (number < length marks.old) × All (λ x. x ≤ 1) marks.old }
+    requires { (number < length marks.old) × AllByRecursion (λ x. x ≤ 1) marks.old }
     ensures { Handled sizes setting (act_of action.now) number marks.old work.old marks.new work.new result }
 {
     if marks[number] == 1 {
@@ -145,7 +145,7 @@ fn pass(
     marks: &mut [u8],
     work: &mut [u8],
 ) -> bool
-    requires { (length marks.old ≤ length actions.now) × All (λ x. x ≤ 1) marks.old }
+    requires { (length marks.old ≤ length actions.now) × AllByRecursion (λ x. x ≤ 1) marks.old }
     ensures { Passed sizes setting actions.now (length marks.old) marks.old work.old result marks.new work.new }
 {
     let mut more = false;
@@ -165,7 +165,7 @@ pub(crate) fn sweep(
     marks: &mut [u8],
     work: &mut [u8],
 )
-    requires { (length marks.old ≤ length actions.now) × All (λ x. x ≤ 1) marks.old }
+    requires { (length marks.old ≤ length actions.now) × AllByRecursion (λ x. x ≤ 1) marks.old }
     ensures { Swept sizes setting actions.now marks.old work.old marks.new work.new }
 {
     let mut more = true;

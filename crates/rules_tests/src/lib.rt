@@ -13,36 +13,36 @@ mod tests {
 
     // Menu, Users, Revoke, Run and Warm: only Warm has nothing to do with getting at Revoke.
     #[test]
-    fn keypad() -> Result<(), Fail> {
+    fn keypad(rt: HostRuntime) -> Result<(), Fail> {
         let mut bench = Maker::new(b"\x03\x02\x02\x02", b"\x01\x00\x02\x01\x03\x01");
         bench.add(b"\x00\x00", b"\x00\x01");
         bench.add(b"\x00\x01", b"\x00\x02");
         bench.add(b"\x00\x02\x01\x01", b"\x00\x00\x01\x00");
         bench.add(b"\x00\x00\x01\x00\x02\x00", b"\x02\x01");
         bench.add(b"\x03\x00", b"\x03\x01");
-        bench.expect(b"\x00\x01\x00\x00", b"\x01\x01\x01\x01\x00")?;
-        bench.expect(b"\x00\x00\x00\x00", b"\x01\x01\x01\x01\x00")?;
-        bench.expect(b"\x00\x00\x01\x00", b"\x00\x00\x00\x00\x01")?;
-        bench.expect(b"\x00\x00\x01\x01", b"\x00\x00\x00\x00\x00")
+        bench.expect(&rt, b"\x00\x01\x00\x00", b"\x01\x01\x01\x01\x00")?;
+        bench.expect(&rt, b"\x00\x00\x00\x00", b"\x01\x01\x01\x01\x00")?;
+        bench.expect(&rt, b"\x00\x00\x01\x00", b"\x00\x00\x00\x00\x01")?;
+        bench.expect(&rt, b"\x00\x00\x01\x01", b"\x00\x00\x00\x00\x00")
     }
 
     // The second action and the third have no conditions; the fourth depends on a sibling of the first
     // one's effect, and the third achieves a sibling of its condition.
     #[test]
-    fn without_conditions() -> Result<(), Fail> {
+    fn without_conditions(rt: HostRuntime) -> Result<(), Fail> {
         let mut bench = Maker::new(b"\x02\x02\x02", b"\x00\x01");
         bench.add(b"\x01\x01", b"\x00\x01");
         bench.add(b"", b"\x01\x01");
         bench.add(b"", b"\x02\x01");
         bench.add(b"\x00\x00\x02\x00", b"\x02\x01");
-        bench.expect(b"\x00\x00\x00", b"\x01\x01\x00\x00")?;
-        bench.expect(b"\x00\x01\x00", b"\x01\x00\x01\x01")?;
-        bench.expect(b"\x01\x01\x00", b"\x00\x00\x00\x00")
+        bench.expect(&rt, b"\x00\x00\x00", b"\x01\x01\x00\x00")?;
+        bench.expect(&rt, b"\x00\x01\x00", b"\x01\x00\x01\x01")?;
+        bench.expect(&rt, b"\x01\x01\x00", b"\x00\x00\x00\x00")
     }
 
     // Sixteen conditions and sixteen effects; the last condition is the one that is unmet.
     #[test]
-    fn sixteen_and_sixteen() -> Result<(), Fail> {
+    fn sixteen_and_sixteen(rt: HostRuntime) -> Result<(), Fail> {
         let mut bench = Maker::new(
             b"\x02\x02\x02\x02\x02\x02\x02\x02\x02\x02\x02\x02\x02\x02\x02\x02\x03",
             b"\x10\x02",
@@ -54,8 +54,9 @@ mod tests {
         bench.add(b"", b"\x0f\x01");
         bench.add(b"", b"\x00\x01");
         bench.add(b"\x0e\x00", b"\x10\x01");
-        bench.expect(b"", b"\x01\x01\x00\x00")?;
+        bench.expect(&rt, b"", b"\x01\x01\x00\x00")?;
         bench.expect(
+            &rt,
             b"\x00\x00\x00\x00\x00\x00\x00\x00\x00\x00\x00\x00\x00\x00\x00\x01",
             b"\x01\x01\x01\x01",
         )
@@ -63,36 +64,36 @@ mod tests {
 
     // No action achieves the goal, and no action at all.
     #[test]
-    fn out_of_reach() -> Result<(), Fail> {
+    fn out_of_reach(rt: HostRuntime) -> Result<(), Fail> {
         let mut bench = Maker::new(b"\x03\x02", b"\x00\x02");
-        bench.expect(b"\x00", b"")?;
+        bench.expect(&rt, b"\x00", b"")?;
         bench.add(b"", b"\x00\x01");
         bench.add(b"\x00\x00", b"\x01\x01");
-        bench.expect(b"\x00", b"\x00\x00")
+        bench.expect(&rt, b"\x00", b"\x00\x00")
     }
 
     // Of two unmet conditions the first counts, and so does the first unmet goal atom.
     #[test]
-    fn lowest_variable_first() -> Result<(), Fail> {
+    fn lowest_variable_first(rt: HostRuntime) -> Result<(), Fail> {
         let mut bench = Maker::new(b"\x02\x02\x02\x02", b"\x02\x01\x03\x01");
         bench.add(b"\x00\x01\x01\x01", b"\x02\x01");
         bench.add(b"", b"\x00\x01");
         bench.add(b"", b"\x01\x01");
         bench.add(b"", b"\x03\x01");
-        bench.expect(b"\x00\x00\x00\x00", b"\x01\x01\x00\x00")?;
-        bench.expect(b"\x01\x00\x00\x00", b"\x01\x00\x01\x00")?;
-        bench.expect(b"\x01\x01\x01\x00", b"\x00\x00\x00\x01")
+        bench.expect(&rt, b"\x00\x00\x00\x00", b"\x01\x01\x00\x00")?;
+        bench.expect(&rt, b"\x01\x00\x00\x00", b"\x01\x00\x01\x00")?;
+        bench.expect(&rt, b"\x01\x01\x01\x00", b"\x00\x00\x00\x01")
     }
 
     // Each action needs what the next lower one achieves.
     #[test]
-    fn against_the_order() -> Result<(), Fail> {
+    fn against_the_order(rt: HostRuntime) -> Result<(), Fail> {
         let mut bench = Maker::new(b"\x02\x02\x02\x02", b"\x00\x01");
         bench.add(b"", b"\x02\x01");
         bench.add(b"\x02\x01", b"\x01\x01");
         bench.add(b"\x01\x01", b"\x00\x01");
         bench.add(b"", b"\x03\x01");
-        bench.expect(b"", b"\x01\x01\x01\x00")
+        bench.expect(&rt, b"", b"\x01\x01\x01\x00")
     }
 
     // The last value of the last variable, at the far end of both collections: the second action depends on
@@ -100,7 +101,7 @@ mod tests {
     // and the fifth depends on one and is applicable, so that the sixth, which achieves a sibling of its
     // effect, is called for too.
     #[test]
-    fn last_variable() -> Result<(), Fail> {
+    fn last_variable(rt: HostRuntime) -> Result<(), Fail> {
         let mut bench = Maker::new(&[32; 64], b"\x3f\x1f");
         bench.add(b"", b"\x3f\x1f");
         bench.add(b"\x3f\x1e", b"\x3e\x01");
@@ -108,33 +109,33 @@ mod tests {
         bench.add(b"\x3c\x01", b"\x3f\x1e");
         bench.add(b"\x3f\x00", b"\x3b\x01");
         bench.add(b"\x3a\x01", b"\x3b\x1f");
-        bench.expect(b"", b"\x01\x01\x00\x01\x01\x01")
+        bench.expect(&rt, b"", b"\x01\x01\x00\x01\x01\x01")
     }
 
     // Where the goal holds, nothing is marked; nor where it has no atom.
     #[test]
-    fn goal_holds() -> Result<(), Fail> {
+    fn goal_holds(rt: HostRuntime) -> Result<(), Fail> {
         let mut bench = Maker::new(b"\x02\x02", b"\x00\x01\x01\x00");
         bench.add(b"", b"\x00\x01");
         bench.add(b"\x00\x01", b"\x01\x01");
-        bench.expect(b"\x01\x00", b"\x00\x00")?;
+        bench.expect(&rt, b"\x01\x00", b"\x00\x00")?;
         let mut free = Maker::new(b"\x02", b"");
         free.add(b"", b"\x00\x01");
-        free.expect(b"\x00", b"\x00")
+        free.expect(&rt, b"\x00", b"\x00")
     }
 
     // Tables of other lengths, and atoms of no bench: the marks are free, and the work bytes are cleared.
     #[test]
-    fn foreign_tables() -> Result<(), Fail> {
+    fn foreign_tables(rt: HostRuntime) -> Result<(), Fail> {
         let mut bench = Maker::new(b"\x02", b"\x00\x01\xff\xff");
         bench.add(b"\xff\xff", b"\xff\xfe");
         bench.add(b"\x50\x40", b"\x00\x01");
-        bench.clears(b"", &mut [7; 2], &mut [7; 4096])?;
-        bench.clears(b"\x01", &mut [7; 2], &mut [7; 4096])?;
-        bench.clears(b"", &mut [7; 1], &mut [7; 4096])?;
-        bench.clears(b"", &mut [7; 9], &mut [7; 4096])?;
-        bench.clears(b"", &mut [7; 2], &mut [7; 5000])?;
-        bench.clears(b"", &mut [7; 2], &mut [7; 3])
+        bench.clears(&rt, b"", &mut [7; 2], &mut [7; 4096])?;
+        bench.clears(&rt, b"\x01", &mut [7; 2], &mut [7; 4096])?;
+        bench.clears(&rt, b"", &mut [7; 1], &mut [7; 4096])?;
+        bench.clears(&rt, b"", &mut [7; 9], &mut [7; 4096])?;
+        bench.clears(&rt, b"", &mut [7; 2], &mut [7; 5000])?;
+        bench.clears(&rt, b"", &mut [7; 2], &mut [7; 3])
     }
 
     // Benches of four variables and eight actions, made by counting, against a plain closure.

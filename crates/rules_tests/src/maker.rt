@@ -1,5 +1,6 @@
 // Benches from bytes: an atom is a variable byte and a value byte.
 use rules::{Actions, All, Rule};
+use std::process::Abort;
 use std::test::*;
 use task::{Action, Atom, Atoms, Setting, Task};
 
@@ -37,27 +38,28 @@ impl Maker {
     // Each rule clears the work bytes over tables of other lengths too.
     pub(crate) fn clears(
         &self,
+        rt: &impl Abort,
         values: &[u8],
         marks: &mut [u8],
         work: &mut [u8],
     ) -> Result<(), Fail> {
-        assert!(clears(&rules::Atoms, self, values, marks, work));
+        assert!(rt; clears(&rules::Atoms, self, values, marks, work));
         dirty(work);
-        assert!(clears(&Actions, self, values, marks, work));
+        assert!(rt; clears(&Actions, self, values, marks, work));
         dirty(work);
-        assert!(clears(&All, self, values, marks, work));
+        assert!(rt; clears(&All, self, values, marks, work));
         Ok(())
     }
 
     // Both rules mark the actions so, and All marks every one, whatever marks and work held.
-    pub(crate) fn expect(&self, values: &[u8], marks: &[u8]) -> Result<(), Fail> {
+    pub(crate) fn expect(&self, rt: &impl Abort, values: &[u8], marks: &[u8]) -> Result<(), Fail> {
         let ones = [1; 8];
         let count = self.task.actions;
-        assert!(count <= 8);
+        assert!(rt; count <= 8);
         for dirt in 0..3 {
-            assert!(marks_so(&rules::Atoms, self, values, marks, dirt));
-            assert!(marks_so(&Actions, self, values, marks, dirt));
-            assert!(marks_so(&All, self, values, &ones[0..count], dirt));
+            assert!(rt; marks_so(&rules::Atoms, self, values, marks, dirt));
+            assert!(rt; marks_so(&Actions, self, values, marks, dirt));
+            assert!(rt; marks_so(&All, self, values, &ones[0..count], dirt));
         }
         Ok(())
     }

@@ -147,6 +147,6 @@ pub(crate) fn compare(rt: &impl Abort, seed: u32) -> Result<u32, Fail> {
         value(seed / 27),
     ];
     let marks = closure(steps, goal, values);
-    bench.expect(&values, &marks)?;
+    bench.expect(rt, &values, &marks)?;
     Ok(seed)
 }

@@ -1,6 +1,6 @@
 -- Laws of the charge of a row of action numbers.
 use Rattle.std.proofs.Common.{◌≡◌, ℕ, zero, suc, ◌+◌, ◌<◌, ◌≤◌, Bool, true, false, cond, ltb, List, [], ◌∷◌, ◌++◌, map, length, get_or, take, drop, Some, None, Option, sym, refl, ap, ◌∙◌, subst, arith}
-use Rattle.std.specs.List.{AllByRecursion as All}
+use Rattle.std.specs.List.{AllByRecursion}
 use Rattle.std.proofs.lemmas.List.{map-append, take_more, take_all, take-append-drop, get_or-map, length-map, length-take}
 use Rattle.std.proofs.lemmas.Bool.{ltb-true, le-ltb, cond-true, cond-false}
 use Rattle.task.specs.declared.data.Action.{Action}
@@ -12,7 +12,7 @@ use Rattle.tariff.specs.Charges.{Charges, Billable}
 use Rattle.tariff.specs.Totals.{SumOfFew, Adding, sum, named, charge_of, and_act, against, stray, unless, totalled}
 
 -- each action of a table may be charged
-pub table_billable : (table : List Action) → All Billable (map act_of table)
+pub table_billable : (table : List Action) → AllByRecursion Billable (map act_of table)
 table_billable [] = tt
 table_billable (a ∷ more) = (a.limits, table_billable more)
 
@@ -20,12 +20,12 @@ idle_billable : Billable idle
 idle_billable = (omega arith, omega arith)
 
 -- each action that a number names is one of the table's, or idle
-pub act_billable : (acts : List Act) (k : ℕ) → All Billable acts → Billable (get_or acts k idle)
+pub act_billable : (acts : List Act) (k : ℕ) → AllByRecursion Billable acts → Billable (get_or acts k idle)
 act_billable [] k all = idle_billable
 act_billable (a ∷ more) zero all = all.0
 act_billable (a ∷ more) (suc k) all = act_billable more k all.1
 
-pub named_billable : (acts : List Act) (numbers : List ℕ) → All Billable acts → All Billable (named acts numbers)
+pub named_billable : (acts : List Act) (numbers : List ℕ) → AllByRecursion Billable acts → AllByRecursion Billable (named acts numbers)
 named_billable acts [] all = tt
 named_billable acts (k ∷ more) all = (act_billable acts k all, named_billable acts more all)
 
@@ -84,7 +84,7 @@ module _ {C : Type 0} (K : Charges C) where
         ap (K.le (charge_of K acts (take i numbers))) whole ∙ le_more _ _
 
     -- up to 65,536 numbers come to a sum of charges
-    pub charge_reached : (numbers : List ℕ) → All Billable acts → length numbers ≤ 65536 → SumOfFew K (charge_of K acts numbers)
+    pub charge_reached : (numbers : List ℕ) → AllByRecursion Billable acts → length numbers ≤ 65536 → SumOfFew K (charge_of K acts numbers)
     charge_reached numbers all few = record { acts = named acts numbers; few = simp length-map few; billable = named_billable acts numbers all; is = refl }
 
   le_not : (a b bound : C) (t : Bool) → K.le a b ≡ true → K.le a bound ≡ false → K.le b bound ≡ t → K.le b bound ≡ false

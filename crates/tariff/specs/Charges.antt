@@ -1,6 +1,6 @@
 -- What a tariff means: a kind of charge, and a charge for each action.
 use Rattle.std.specs.Prelude.{◌≡◌, ◌≤◌, Bool, true, ◌||◌, List, [], ◌∷◌, length}
-use Rattle.std.specs.List.{AllByRecursion as All}
+use Rattle.std.specs.List.{AllByRecursion}
 use Rattle.task.specs.Benches.{Act}
 
 -- an action may take up to 1,000,000 tenths and 1,000 presses
@@ -16,7 +16,7 @@ summed zero plus charge (a ∷ more) = plus (charge a) (summed zero plus charge 
 pub record Reached {C : Type 0} (zero : C) (plus : C → C → C) (charge : Act → C) (c : C) : Type 0 where
   pub acts : List Act
   pub few : length acts ≤ 65536
-  pub billable : All Billable acts
+  pub billable : AllByRecursion Billable acts
   pub is : c ≡ summed zero plus charge acts
 
 pub record Charges (C : Type 0) : Type 0 where

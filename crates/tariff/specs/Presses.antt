@@ -1,7 +1,7 @@
 -- The tariff "Presses": key presses first, tenths of a second second.
 use Rattle.std.specs.Prelude.{◌≡◌, ℕ, ◌+◌, ◌*◌, ◌<◌, ◌≤◌, Bool, true, false, ◌&&◌, ◌||◌, ◌⊎◌, List, [], ◌∷◌, length, ◌==◌, nat_le, nat_lt, refl}
 use Rattle.std.proofs.Common.{sym, ap, ◌∙◌, inl, inr, ⊎_elim, add_assoc, add_comm, zero-add, arith}
-use Rattle.std.specs.List.{AllByRecursion as All}
+use Rattle.std.specs.List.{AllByRecursion}
 use Rattle.std.proofs.lemmas.Bool.{leb-true, ltb-true, ltb-false, eqb-true, eqb-false, le-leb, lt-ltb, le-ltb, eq-eqb, ne_eqb, or_cases, or_left, or_right, and_parts, and_from, cases_order, cases_lt}
 use Rattle.task.specs.Benches.{Act}
 use Rattle.tariff.specs.declared.charge.Pressed.{Pressed}
@@ -88,11 +88,11 @@ pub upto_both : (a b c : Pressed) → upto (both a c) (both b c) ≡ upto a b
 upto_both a b c =
     λ i. ltb_plus a.presses b.presses c.presses i || (eqb_plus a.presses b.presses c.presses i && leb_plus a.tenths b.tenths c.tenths i)
 
-pub presses_few : (acts : List Act) → All Billable acts → (summed (pressed 0 0) both presses_of acts).presses ≤ 1000 * length acts
+pub presses_few : (acts : List Act) → AllByRecursion Billable acts → (summed (pressed 0 0) both presses_of acts).presses ≤ 1000 * length acts
 presses_few [] all = omega arith
 presses_few (a ∷ more) all = let rest = presses_few more all.1 in let one = all.0.1 in omega arith
 
-pub tenths_few : (acts : List Act) → All Billable acts → (summed (pressed 0 0) both presses_of acts).tenths ≤ 1000000 * length acts
+pub tenths_few : (acts : List Act) → AllByRecursion Billable acts → (summed (pressed 0 0) both presses_of acts).tenths ≤ 1000000 * length acts
 tenths_few [] all = omega arith
 tenths_few (a ∷ more) all = let rest = tenths_few more all.1 in let one = all.0.0 in omega arith
 

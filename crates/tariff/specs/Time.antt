@@ -1,7 +1,7 @@
 -- The tariff "Time": tenths of a second.
 use Rattle.std.specs.Prelude.{◌≡◌, ℕ, ◌+◌, ◌*◌, ◌≤◌, Bool, true, false, ◌||◌, List, [], ◌∷◌, length, nat_le, refl}
 use Rattle.std.proofs.Common.{sym, ◌∙◌, add_assoc, add_comm, zero-add, arith}
-use Rattle.std.specs.List.{AllByRecursion as All}
+use Rattle.std.specs.List.{AllByRecursion}
 use Rattle.std.proofs.lemmas.Bool.{leb-true, leb-false, le-leb, lt-leb, or_left, or_right}
 use Rattle.task.specs.Benches.{Act}
 use Rattle.tariff.specs.Charges.{Charges, Billable, summed}
@@ -30,7 +30,7 @@ leb_plus a b c = at (nat_le a b) refl
     at true e = le-leb (a + c) (b + c) (omega (arith, leb-true a b e)) ∙ sym e
     at false e = lt-leb (a + c) (b + c) (omega (arith, leb-false a b e)) ∙ sym e
 
-pub tenths_few : (acts : List Act) → All Billable acts → summed 0 ◌+◌ (λ a. a.tenths) acts ≤ 1000000 * length acts
+pub tenths_few : (acts : List Act) → AllByRecursion Billable acts → summed 0 ◌+◌ (λ a. a.tenths) acts ≤ 1000000 * length acts
 tenths_few [] all = omega arith
 tenths_few (a ∷ more) all = let rest = tenths_few more all.1 in let one = all.0.0 in omega arith
 

@@ -1,6 +1,6 @@
 -- Benches, their settings and their plans.
 use Rattle.std.specs.Prelude.{◌≡◌, ℕ, ◌<◌, ◌≤◌, Bool, true, false, ◌&&◌, ◌||◌, List, [], ◌∷◌, map, length, take, ◌==◌, nat_lt, slice_index, slice_index_or}
-use Rattle.std.specs.List.{AllByRecursion as All}
+use Rattle.std.specs.List.{AllByRecursion}
 use Rattle.task.specs.declared.data.Atom.{Atom}
 use Rattle.task.specs.declared.data.Action.{Action}
 use Rattle.task.specs.declared.data.Task.{Task}
@@ -69,7 +69,7 @@ Plan W s (k ∷ more) = (W.can s k ≡ true) × Plan W (W.next s k) more
 -- each atom's variable is below the next one's
 abbrev pub Rising : List Atom → Type 0
 Rising [] = Unit {0}
-Rising (a ∷ more) = All (λ b. a.variable < b.variable) more × Rising more
+Rising (a ∷ more) = AllByRecursion (λ b. a.variable < b.variable) more × Rising more
 
 -- the atom's variable and value are of the bench
 abbrev pub Inside : List ℕ → Atom → Type 0
@@ -81,20 +81,20 @@ pub record LawfulAct (sizes : List ℕ) (a : Act) : Type 0 where
   pub few_conditions : length a.conditions ≤ 16
   pub few_effects : length a.effects ≤ 16
   pub some_effect : 1 ≤ length a.effects
-  pub conditions_inside : All (Inside sizes) a.conditions
+  pub conditions_inside : AllByRecursion (Inside sizes) a.conditions
   pub conditions_rise : Rising a.conditions
-  pub effects_inside : All (Inside sizes) a.effects
+  pub effects_inside : AllByRecursion (Inside sizes) a.effects
   pub effects_rise : Rising a.effects
-  pub apart : All (λ e. some_atom (alike e) a.conditions ≡ false) a.effects
+  pub apart : AllByRecursion (λ e. some_atom (alike e) a.conditions ≡ false) a.effects
 
 -- a bench within the limits, whose atoms are its own and stand in rising order
 pub record Lawful (b : Bench) : Type 0 where
   pub some_variable : 1 ≤ length b.sizes
   pub few_variables : length b.sizes ≤ 64
-  pub sizes : All (λ n. (1 ≤ n) × (n ≤ 32)) b.sizes
+  pub sizes : AllByRecursion (λ n. (1 ≤ n) × (n ≤ 32)) b.sizes
   pub few_actions : length b.actions ≤ 1024
-  pub acts : All (LawfulAct b.sizes) b.actions
-  pub goal_inside : All (Inside b.sizes) b.goal
+  pub acts : AllByRecursion (LawfulAct b.sizes) b.actions
+  pub goal_inside : AllByRecursion (Inside b.sizes) b.goal
   pub goal_rises : Rising b.goal
 
 -- sixty-four values, each below its variable's number of values, and 0 past the last variable

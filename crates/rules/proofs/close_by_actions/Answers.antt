@@ -1,4 +1,4 @@
-use Rattle.std.proofs.Common.{◌≡◌, ◌≤◌, length, sym, ap, ◌∙◌, arith}
+use Rattle.std.proofs.Common.{sym, ap, ◌∙◌, arith}
 use Rattle.task.specs.Settings.{unmet}
 use Rattle.rules.proofs.Spreads.{line_none, none_closes, spread_closes}
 use Rattle.rules.proofs.close_by_actions.Goals as goal

@@ -1,4 +1,4 @@
-use Rattle.std.proofs.Common.{◌≡◌, ◌+◌, ◌<◌, eqb, length, set, sym, subst, arith, rules}
+use Rattle.std.proofs.Common.{◌+◌, ◌<◌, eqb, length, set, sym, subst, arith}
 use Rattle.rules.specs.Queues.{Joined}
 use Rattle.rules.proofs.Lines.{tail_room, joined_new}
 use Rattle.rules.proofs.line.join.Goals as goal

@@ -1,6 +1,5 @@
-use Rattle.std.proofs.Common.{◌≡◌, ◌<◌, ◌≤◌, length, sym, ap, ◌∙◌, arith}
+use Rattle.std.proofs.Common.{◌<◌, length, sym, ap, ◌∙◌, arith}
 use Rattle.task.specs.Benches.{achieving}
-use Rattle.rules.specs.Queues.{act_at, Joined}
 use Rattle.rules.proofs.Lines.{joined_none, joined_more, joined_skip, joined_all, act_read}
 use Rattle.rules.proofs.line.join_achievers.Goals as goal
 use Rattle.rules.proofs.line.join_achievers.Goals.{then-achieves, else-achieves}

@@ -1,4 +1,3 @@
-use Rattle.std.proofs.Common.{◌≡◌}
 use Rattle.task.specs.Benches.{achieving}
 use Rattle.rules.specs.Queues.{act_at, Joined}
 use Rattle.rules.proofs.line.join_achievers.Given as goal

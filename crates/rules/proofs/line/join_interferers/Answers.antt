@@ -1,6 +1,5 @@
-use Rattle.std.proofs.Common.{◌≡◌, ◌<◌, ◌≤◌, length, sym, ap, ◌∙◌, arith}
+use Rattle.std.proofs.Common.{◌<◌, length, sym, ap, ◌∙◌, arith}
 use Rattle.task.specs.Benches.{act_of, interfering}
-use Rattle.rules.specs.Queues.{act_at, Joined}
 use Rattle.rules.proofs.Lines.{joined_none, joined_more, joined_skip, joined_all, act_read}
 use Rattle.rules.proofs.line.join_interferers.Goals as goal
 use Rattle.rules.proofs.line.join_interferers.Goals.{then-interferes, else-interferes}

@@ -1,4 +1,3 @@
-use Rattle.std.proofs.Common.{◌≡◌}
 use Rattle.task.specs.Benches.{act_of, interfering}
 use Rattle.rules.specs.Queues.{act_at, Joined}
 use Rattle.rules.proofs.line.join_interferers.Given as goal

@@ -1,4 +1,4 @@
-use Rattle.std.proofs.Common.{◌≡◌, ◌<◌, ◌≤◌, length, sym, ap, ◌∙◌, subst, arith}
+use Rattle.std.proofs.Common.{◌≡◌, ◌<◌, length, sym, ap, ◌∙◌, subst, arith}
 use Rattle.task.specs.Settings.{unmet}
 use Rattle.task.specs.Benches.{Act, act_of}
 use Rattle.rules.specs.Sets.{called}
@@ -20,7 +20,7 @@ loop-head-preserved c =
     let g = c.loop-head.invariant in
     let v = g.line.valid c.loop-head.head c.loop-head-test.true in
     let number = c.number_at-number.result in
-    let low : number < length c.args.actions.now = omega (arith, v.0, c.number_at-number.ensures, g.as-many, c.requires.1) in
+    let low : number < length c.args.actions.now = omega (arith, v.0, c.number_at-number.ensures, g.as_many, c.requires.1) in
     let is : act_at c.args.actions.now (number_at c.loop-head.work c.loop-head.head) ≡ act_of c.index-actions-number.result =
     ap (λ k. act_at c.args.actions.now k) (sym c.number_at-number.ensures) ∙ act_read c.args.actions.now number c.index-actions-number.result low c.index-actions-number.is in
     going_more g c.loop-head-test.true

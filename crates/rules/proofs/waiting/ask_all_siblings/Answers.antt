@@ -1,6 +1,6 @@
-use Rattle.std.proofs.Common.{◌≡◌, ◌+◌, get_or, take, sym, refl}
+use Rattle.std.proofs.Common.{◌+◌, get_or, take, refl}
 use Rattle.task.specs.Settings.{some_atom}
-use Rattle.rules.specs.Waits.{beside, Wrote}
+use Rattle.rules.specs.Waits.{beside}
 use Rattle.rules.proofs.Writes.{wrote_none, wrote_then, wrote_as, some_more, some_all}
 use Rattle.rules.proofs.waiting.ask_all_siblings.Goals as goal
 

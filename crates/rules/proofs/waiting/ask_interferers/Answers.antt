@@ -1,5 +1,4 @@
-use Rattle.std.proofs.Common.{◌≡◌, Bool, true, false, ◌||◌, List, None, refl, subst}
-use Rattle.task.specs.declared.data.Atom.{Atom}
+use Rattle.std.proofs.Common.{◌||◌, None, refl, subst}
 use Rattle.task.specs.Settings.{listed, some_atom}
 use Rattle.task.specs.Benches.{act_of}
 use Rattle.rules.specs.Waits.{beside, asks, Wrote}

@@ -1,4 +1,4 @@
-use Rattle.std.proofs.Common.{◌≡◌, ◌+◌, eqb, get_or, sym, subst, arith}
+use Rattle.std.proofs.Common.{◌≡◌, ◌+◌, eqb, get_or, subst, arith}
 use Rattle.rules.specs.Waits.{place, beside_below, Wrote}
 use Rattle.rules.proofs.Writes.{wrote_none, wrote_then, wrote_as, beside_none, beside_more, beside_skip}
 use Rattle.rules.proofs.waiting.ask_siblings.Goals as goal

@@ -1,4 +1,4 @@
-use Rattle.std.proofs.Common.{◌≡◌, ◌+◌, ◌<◌, ◌≤◌, Bool, true, false, length, sym, subst, arith}
+use Rattle.std.proofs.Common.{◌≡◌, ◌+◌, ◌<◌, Bool, true, false, length, sym, subst, arith}
 use Rattle.task.specs.Benches.{Act}
 use Rattle.rules.specs.Queues.{act_at}
 use Rattle.rules.specs.Waits.{Handled, Passed}

@@ -1,4 +1,4 @@
-use Rattle.std.proofs.Common.{◌≡◌, ℕ, Bool, cond, sym, ap, subst, arith}
+use Rattle.std.proofs.Common.{◌≡◌, ℕ, Bool, cond, ap, subst, arith}
 use Rattle.rules.proofs.Passes.{Sweeping, sweeping_none, sweeping_more, sweeping_less, sweeping_all}
 use Rattle.rules.proofs.waiting.sweep.Goals as goal
 

@@ -1,6 +1,5 @@
-use Rattle.std.proofs.Common.{◌≡◌, ℕ, ◌≤◌, eqb, length, get_or, sym, ap, ◌∙◌, arith}
+use Rattle.std.proofs.Common.{◌≡◌, eqb, get_or, sym, ap, ◌∙◌}
 use Rattle.std.proofs.lemmas.List.{get_or_past}
-use Rattle.rules.specs.Waits.{place}
 use Rattle.rules.proofs.waiting.waits.Goals as goal
 use Rattle.rules.proofs.waiting.waits.Goals.{then-at-work, else-at-work}
 
