@@ -1,6 +1,6 @@
 -- A record that is read is what it is written as.
 use Rattle.std.proofs.Common.{◌≡◌, ℕ, zero, suc, ◌+◌, ◌-◌, ◌*◌, ◌/◌, ◌%◌, ◌<◌, ◌≤◌, Bool, true, false, cond, ◌&&◌, eqb, leb, List, [], ◌∷◌, ◌++◌, length, get_or, take, drop, Some, None, Ok, Result, sym, refl, ap, ◌∙◌, ⊎_elim, arith, length-drop, take-append-drop}
-use Rattle.std.specs.List.{between, AllByRecursion as All}
+use Rattle.std.specs.List.{between, AllByRecursion}
 use Rattle.std.proofs.ByRecursion.{All-take}
 use Rattle.std.proofs.lemmas.List.{drop-drop, length-take-le}
 use Rattle.std.proofs.lemmas.Slice.{between_to_end}
@@ -18,7 +18,7 @@ use Rattle.book.proofs.Accepted.{ok_same}
 use Rattle.book.proofs.Laws.{same_kind}
 
 abbrev pub Bytes : List ℕ → Type 0
-Bytes bytes = All (λ x. x < 256) bytes
+Bytes bytes = AllByRecursion (λ x. x < 256) bytes
 
 -- a test that guards what is read
 passed : {X : Type 0} (t : Bool) (x : Result X Refusal) (f : Fault) (at : ℕ) (v : X) → cond t x (refuse f at) ≡ Ok v → (t ≡ true) × (x ≡ Ok v)

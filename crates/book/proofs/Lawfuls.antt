@@ -1,6 +1,6 @@
 -- A lawful bench has no fault.
 use Rattle.std.proofs.Common.{◌≡◌, ℕ, ◌+◌, ◌<◌, ◌≤◌, false, cond, List, [], ◌∷◌, length, get_or, Some, None, Option, refl, ◌∙◌, arith}
-use Rattle.std.specs.List.{AllByRecursion as All}
+use Rattle.std.specs.List.{AllByRecursion}
 use Rattle.std.proofs.ByRecursion.{All-weaker}
 use Rattle.std.proofs.lemmas.Bool.{cond-true, cond-false, and_from, or_from, lt-ltb, le-ltb, le-leb, lt-leb, ne_eqb}
 use Rattle.task.specs.declared.data.Atom.{Atom}
@@ -14,21 +14,21 @@ use Rattle.book.specs.Format.{atoms_fault, repeating, or_else, variable_fault, f
 pub no_variable_fault : (count n : ℕ) → count < 64 → 1 ≤ n → n ≤ 32 → variable_fault count n ≡ None
 no_variable_fault count n h k l = cond-true _ _ _ (lt-ltb count 64 h) ∙ cond-true _ _ _ (and_from _ _ (le-leb 1 n k) (le-leb n 32 l))
 
-no_fault_from : (sizes : List ℕ) (floor : ℕ) (atoms : List Atom) → All (Inside sizes) atoms → Rising atoms → All (λ a. floor ≤ a.variable) atoms → atoms_fault sizes floor atoms ≡ None
+no_fault_from : (sizes : List ℕ) (floor : ℕ) (atoms : List Atom) → AllByRecursion (Inside sizes) atoms → Rising atoms → AllByRecursion (λ a. floor ≤ a.variable) atoms → atoms_fault sizes floor atoms ≡ None
 no_fault_from sizes floor [] i r f = refl
 no_fault_from sizes floor (a ∷ more) i r f =
     cond-true _ _ _ (and_from _ _ (lt-ltb a.variable (length sizes) i.0.0) (lt-ltb a.value (get_or sizes a.variable 0) i.0.1))
     ∙ cond-true _ _ _ (le-leb floor a.variable f.0)
     ∙ no_fault_from sizes (a.variable + 1) more i.1 r.1 (All-weaker _ _ (λ b h. omega arith) more r.0)
 
-all_from_zero : (atoms : List Atom) → All (λ a. 0 ≤ a.variable) atoms
+all_from_zero : (atoms : List Atom) → AllByRecursion (λ a. 0 ≤ a.variable) atoms
 all_from_zero [] = tt
 all_from_zero (a ∷ more) = (omega arith, all_from_zero more)
 
-pub no_atoms_fault : (sizes : List ℕ) (atoms : List Atom) → All (Inside sizes) atoms → Rising atoms → atoms_fault sizes 0 atoms ≡ None
+pub no_atoms_fault : (sizes : List ℕ) (atoms : List Atom) → AllByRecursion (Inside sizes) atoms → Rising atoms → atoms_fault sizes 0 atoms ≡ None
 no_atoms_fault sizes atoms i r = no_fault_from sizes 0 atoms i r (all_from_zero atoms)
 
-not_repeating : (conditions effects : List Atom) → All (λ e. some_atom (alike e) conditions ≡ false) effects → repeating conditions effects ≡ false
+not_repeating : (conditions effects : List Atom) → AllByRecursion (λ e. some_atom (alike e) conditions ≡ false) effects → repeating conditions effects ≡ false
 not_repeating conditions [] h = refl
 not_repeating conditions (e ∷ more) h = or_from _ _ h.0 (not_repeating conditions more h.1)
 

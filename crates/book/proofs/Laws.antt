@@ -1,6 +1,6 @@
 -- The bench of an accepted book is lawful.
 use Rattle.std.proofs.Common.{◌≡◌, ℕ, zero, suc, ◌+◌, ◌<◌, ◌≤◌, Bool, true, false, cond, List, [], ◌∷◌, ◌++◌, length, drop, Some, None, Ok, sym, refl, ap, ◌∙◌, subst, arith}
-use Rattle.std.specs.List.{AllByRecursion as All}
+use Rattle.std.specs.List.{AllByRecursion}
 use Rattle.std.proofs.ByRecursion.{All-push}
 use Rattle.std.proofs.lemmas.List.{length_push}
 use Rattle.std.proofs.lemmas.Bool.{or_parts}
@@ -23,13 +23,13 @@ use Rattle.book.proofs.Accepted.{ok_same, then_ok, Admitted, admits, ended}
 abbrev From : ℕ → Atom → Type 0
 From floor a = floor ≤ a.variable
 
-inside : (sizes : List ℕ) (floor : ℕ) (atoms : List Atom) → atoms_fault sizes floor atoms ≡ None → All (Inside sizes) atoms
+inside : (sizes : List ℕ) (floor : ℕ) (atoms : List Atom) → atoms_fault sizes floor atoms ≡ None → AllByRecursion (Inside sizes) atoms
 inside sizes floor [] e = tt
 inside sizes floor (a ∷ more) e =
     let f = fine_atom sizes floor a more e in
     ((f.variable, f.value), inside sizes (a.variable + 1) more f.on)
 
-above : (sizes : List ℕ) (floor low : ℕ) (atoms : List Atom) → atoms_fault sizes floor atoms ≡ None → low < floor → All (λ b. low < b.variable) atoms
+above : (sizes : List ℕ) (floor low : ℕ) (atoms : List Atom) → atoms_fault sizes floor atoms ≡ None → low < floor → AllByRecursion (λ b. low < b.variable) atoms
 above sizes floor low [] e h = tt
 above sizes floor low (a ∷ more) e h =
     let f = fine_atom sizes floor a more e in
@@ -41,7 +41,7 @@ rising sizes floor (a ∷ more) e =
     let f = fine_atom sizes floor a more e in
     (above sizes (a.variable + 1) a.variable more f.on (omega arith), rising sizes (a.variable + 1) more f.on)
 
-apart : (conditions effects : List Atom) → repeating conditions effects ≡ false → All (λ e. some_atom (alike e) conditions ≡ false) effects
+apart : (conditions effects : List Atom) → repeating conditions effects ≡ false → AllByRecursion (λ e. some_atom (alike e) conditions ≡ false) effects
 apart conditions [] h = tt
 apart conditions (e ∷ more) h =
     let p = or_parts (some_atom (alike e) conditions) (repeating conditions more) h in
@@ -72,10 +72,10 @@ Staged stage.Done b = 1 ≤ length b.sizes
 
 record Sound (s : Stage) (b : Bench) : Type 0 where
   few_variables : length b.sizes ≤ 64
-  sizes : All (λ n. (1 ≤ n) × (n ≤ 32)) b.sizes
+  sizes : AllByRecursion (λ n. (1 ≤ n) × (n ≤ 32)) b.sizes
   few_actions : length b.actions ≤ 1024
-  acts : All (LawfulAct b.sizes) b.actions
-  goal_inside : All (Inside b.sizes) b.goal
+  acts : AllByRecursion (LawfulAct b.sizes) b.actions
+  goal_inside : AllByRecursion (Inside b.sizes) b.goal
   goal_rises : Rising b.goal
   staged : Staged s b
 
@@ -121,8 +121,8 @@ stays s t b (variable_part n) h e f =
       few_variables = omega (arith, length_push b.sizes n, v.room);
       sizes = All-push _ b.sizes n h.sizes (v.some, v.few);
       few_actions = h.few_actions;
-      acts = subst (All (LawfulAct (b.sizes ++ n ∷ []))) (sym w.1) tt;
-      goal_inside = subst (All (Inside (b.sizes ++ n ∷ []))) (sym w.2) tt;
+      acts = subst (AllByRecursion (LawfulAct (b.sizes ++ n ∷ []))) (sym w.1) tt;
+      goal_inside = subst (AllByRecursion (Inside (b.sizes ++ n ∷ []))) (sym w.2) tt;
       goal_rises = h.goal_rises;
       staged = (omega (arith, length_push b.sizes n), w.1, w.2);
     })

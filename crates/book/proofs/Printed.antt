@@ -1,6 +1,6 @@
 -- The book of a lawful bench reads back to it.
 use Rattle.std.proofs.Common.{◌≡◌, ℕ, ◌+◌, ◌≤◌, List, [], ◌∷◌, ◌++◌, length, Some, None, Ok, sym, refl, subst, arith, length-append}
-use Rattle.std.specs.List.{flat_map, AllByRecursion as All}
+use Rattle.std.specs.List.{flat_map, AllByRecursion}
 use Rattle.std.proofs.lemmas.List.{append_assoc, append-nil, drop_at, length_push}
 use Rattle.task.specs.declared.data.Atom.{Atom}
 use Rattle.task.specs.Benches.{Act, Bench, LawfulAct, Lawful}
@@ -31,7 +31,7 @@ over_record book rest σ p s few stands fine w =
 next_record : (X : Type 0) (book rest : List ℕ) (f : X → List ℕ) (x : X) (xs : List X) (σ : Reading) → Reached book (flat_map f (x ∷ xs) ++ rest) σ → Reached book (f x ++ (flat_map f xs ++ rest)) σ
 next_record X book rest f x xs σ w = subst (λ l. Reached book l σ) (append_assoc (f x) (flat_map f xs) rest) w
 
-over_variables : (book rest : List ℕ) (done left : List ℕ) → length done + length left ≤ 64 → All (λ n. (1 ≤ n) × (n ≤ 32)) left → Reached book (flat_map variable_bytes left ++ rest) (reading stage.Actions (bench done [] [])) → Reached book rest (reading stage.Actions (bench (done ++ left) [] []))
+over_variables : (book rest : List ℕ) (done left : List ℕ) → length done + length left ≤ 64 → AllByRecursion (λ n. (1 ≤ n) × (n ≤ 32)) left → Reached book (flat_map variable_bytes left ++ rest) (reading stage.Actions (bench done [] [])) → Reached book rest (reading stage.Actions (bench (done ++ left) [] []))
 over_variables book rest done [] few fine w = subst (λ l. Reached book rest (reading stage.Actions (bench l [] []))) (sym (append-nil done)) w
 over_variables book rest done (n ∷ left) few fine w =
     let one = over_record book (flat_map variable_bytes left ++ rest) (reading stage.Actions (bench done [] [])) (variable_part n) stage.Actions (omega arith) refl (no_variable_fault (length done) n (omega arith) fine.0.0 fine.0.1) (next_record ℕ book rest variable_bytes n left (reading stage.Actions (bench done [] [])) w) in
@@ -42,7 +42,7 @@ over_variables book rest done (n ∷ left) few fine w =
 abbrev Open : Stage → Type 0
 Open s = (stage_after s kind.Action ≡ Some stage.Goal) × (stage_after s kind.Goal ≡ Some stage.Done)
 
-over_actions : (book rest sizes : List ℕ) (s : Stage) (done left : List Act) → Open s → length sizes ≤ 64 → length done + length left ≤ 1024 → All (LawfulAct sizes) left → Reached book (flat_map action_bytes left ++ rest) (reading s (bench sizes done [])) → (t : Stage) × Open t × Reached book rest (reading t (bench sizes (done ++ left) []))
+over_actions : (book rest sizes : List ℕ) (s : Stage) (done left : List Act) → Open s → length sizes ≤ 64 → length done + length left ≤ 1024 → AllByRecursion (LawfulAct sizes) left → Reached book (flat_map action_bytes left ++ rest) (reading s (bench sizes done [])) → (t : Stage) × Open t × Reached book rest (reading t (bench sizes (done ++ left) []))
 over_actions book rest sizes s done [] o few room fine w = (s, o, subst (λ l. Reached book rest (reading s (bench sizes l []))) (sym (append-nil done)) w)
 over_actions book rest sizes s done (a ∷ left) o few room fine w =
     let one = over_record book (flat_map action_bytes left ++ rest) (reading s (bench sizes done [])) (action_part a) stage.Goal few o.0 (no_act_fault sizes (length done) a (omega arith) fine.0) (next_record Act book rest action_bytes a left (reading s (bench sizes done [])) w) in
@@ -57,7 +57,7 @@ reads_back b l = go b.sizes refl l.some_variable
     go (n ∷ more) e h =
         let book : List ℕ = print b in
         let actions : List ℕ = flat_map action_bytes b.actions ++ goal_bytes b.goal in
-        let fine : All (λ n. (1 ≤ n) × (n ≤ 32)) (n ∷ more) = subst (All (λ n. (1 ≤ n) × (n ≤ 32))) e l.sizes in
+        let fine : AllByRecursion (λ n. (1 ≤ n) × (n ≤ 32)) (n ∷ more) = subst (AllByRecursion (λ n. (1 ≤ n) × (n ≤ 32))) e l.sizes in
         let few : length (n ∷ more) ≤ 64 = subst (λ z. length z ≤ 64) e l.few_variables in
         let w0 : Reached book (flat_map variable_bytes (n ∷ more) ++ actions) start = (0, subst (λ z. Walk book (flat_map variable_bytes z ++ actions) 0 start) e (begins book)) in
         let w1 = over_record book (flat_map variable_bytes more ++ actions) start (variable_part n) stage.Actions (omega arith) refl (no_variable_fault 0 n (omega arith) fine.0.0 fine.0.1) (next_record ℕ book actions variable_bytes n more start w0) in

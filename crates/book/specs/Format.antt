@@ -1,8 +1,7 @@
 -- The bench of a book, record by record, or the refusal of its first faulty record.
-use Rattle.std.specs.Prelude.{ℕ, zero, suc, ◌+◌, ◌-◌, Bool, cond, ◌&&◌, ◌||◌, List, [], ◌∷◌, ◌++◌, length, drop, Some, None, Ok, Err, Option, Result, ◌==◌, nat_le, nat_lt, slice_index}
+use Rattle.std.specs.Prelude.{ℕ, zero, suc, ◌+◌, Bool, cond, ◌&&◌, ◌||◌, List, [], ◌∷◌, ◌++◌, length, drop, Some, None, Ok, Err, Option, Result, ◌==◌, nat_le, nat_lt, slice_index}
 use Rattle.std.specs.List.{between}
 use Rattle.task.specs.declared.data.Atom.{Atom}
-use Rattle.task.specs.declared.data.Action.{Action}
 use Rattle.task.specs.declared.refusal.Fault.{Fault}
 use Rattle.task.specs.declared.refusal.Fault.TheVariants.{OutOfPlace, TooMany, ValueCount, OutsideBench, NotRising, NoEffect, OverLimit, RepeatsCondition, NoGoal, ShortTable}
 use Rattle.task.specs.declared.refusal.Refusal.{Refusal}

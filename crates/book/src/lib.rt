@@ -1,5 +1,6 @@
 // Reads a bench book into a task and a lent table of actions, and writes it again.
 #![tactic(auto)]
+
 ghost use Rattle.std.specs.Prelude.{◌≡◌, ◌+◌, ◌≤◌, ◌++◌, map, length, take, drop, IfOk, Some, None, Ok};
 ghost use Rattle.task.specs.Settings.{listed, some_atom};
 ghost use Rattle.task.specs.Benches.{Bench, Lawful, act_of, alike, bench_of};

@@ -34,11 +34,12 @@ mod tests {
         let mut table = [spare(); 6];
         match read(book.bytes(), &mut table) {
             Ok(task) => {
+                let sizes = task.sizes;
                 assert_eq!(rt; task.variables, 4);
                 assert_eq!(rt; task.actions, 5);
-                assert_eq!(rt; task.sizes[0], 3);
-                assert_eq!(rt; task.sizes[3], 2);
-                assert_eq!(rt; task.sizes[4], 0);
+                assert_eq!(rt; sizes[0], 3);
+                assert_eq!(rt; sizes[3], 2);
+                assert_eq!(rt; sizes[4], 0);
                 assert!(rt; same_atoms(task.goal.list(), b"\x01\x00\x02\x01\x03\x01"));
                 assert!(rt; same_action(&table[0], 2, 1, b"\x00\x00", b"\x00\x01"));
                 assert!(rt; same_action(&table[1], 2, 1, b"\x00\x01", b"\x00\x02"));
@@ -53,7 +54,7 @@ mod tests {
             Err(refusal) => {
                 assert_eq!(rt; refusal.number(), 0);
                 Ok(())
-            },
+            }
         }
     }
 
@@ -79,7 +80,7 @@ mod tests {
             Err(refusal) => {
                 assert_eq!(rt; refusal.number(), 0);
                 Ok(())
-            },
+            }
         }
     }
 
@@ -321,7 +322,7 @@ mod tests {
             Ok(task) => {
                 assert_eq!(rt; task.variables, 1000);
                 Ok(())
-            },
+            }
             Err(refusal) => {
                 assert_eq!(rt; refusal.number(), 21);
                 assert_eq!(rt; refusal.layer(), 2);
@@ -390,7 +391,7 @@ mod tests {
             Err(refusal) => {
                 assert_eq!(rt; refusal.number(), 0);
                 Ok(())
-            },
+            }
         }
     }
 }

@@ -108,7 +108,7 @@ pub(crate) fn refused(rt: &impl Abort, book: &[u8], number: u8, place: usize) ->
         Ok(task) => {
             assert_eq!(rt; task.variables, 1000);
             Ok(())
-        },
+        }
         Err(refusal) => {
             assert_eq!(rt; refusal.number(), number);
             assert_eq!(rt; refusal.layer(), 1);
@@ -153,7 +153,7 @@ pub(crate) fn accepted(
         Err(refusal) => {
             assert_eq!(rt; refusal.number(), 0);
             Ok(())
-        },
+        }
     }
 }
 
@@ -223,8 +223,8 @@ pub(crate) fn round_trip(rt: &impl Abort, book: &[u8]) -> Result<(), Fail> {
         Ok(task) => task,
         Err(refusal) => {
             assert_eq!(rt; refusal.number(), 0);
-            return Ok(())
-        },
+            return Ok(());
+        }
     };
     let size = book.len();
     if size == 0 {

@@ -1,5 +1,5 @@
 -- What a line of the console asks for.
-use Rattle.std.specs.Prelude.{ℕ, zero, suc, ◌+◌, Bool, cond, ◌&&◌, List, [], ◌∷◌, length, replicate, Some, None, Option, ◌==◌, nat_le, slice_set}
+use Rattle.std.specs.Prelude.{ℕ, zero, suc, ◌+◌, cond, List, [], ◌∷◌, replicate, Some, None, Option, ◌==◌, nat_le, slice_set}
 use Rattle.text.specs.Fields.{digits, decimal, pieces}
 use Rattle.console.specs.declared.command.Command.{Command}
 use Rattle.console.specs.declared.command.Command.TheVariants.{Begin, Advance, Take, Abandon}

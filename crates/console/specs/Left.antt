@@ -1,5 +1,5 @@
 -- What is left of a line.
-use Rattle.std.specs.Prelude.{ℕ, List, [], ◌∷◌, Some, None, Option}
+use Rattle.std.specs.Prelude.{ℕ, List, [], Some, None, Option}
 use Rattle.std.specs.Borrow.{Bor}
 use Rattle.text.specs.Fields.{pieces}
 

@@ -1,5 +1,6 @@
 // The console: a bench, asked line by line.
 #![tactic(auto)]
+
 mod command;
 mod lines;
 mod output;

@@ -1,5 +1,6 @@
 // Prints the book `bench.bk` record by record, writes it again, and says whether the bytes are the same.
 #![tactic(auto)]
+
 use book::{read, write};
 use std::fs;
 use task::{Action, Atom, Atoms, Refusal, Task};

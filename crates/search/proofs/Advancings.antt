@@ -1,5 +1,5 @@
 -- What an Advance comes to.
-use Rattle.std.proofs.Common.{◌≡◌, ℕ, ◌+◌, ◌-◌, ◌<◌, ◌≤◌, List, [], ◌∷◌, length, get_or, take, drop, Some, None, Ok, Err, sym, refl, ap, ◌∙◌, subst, arith}
+use Rattle.std.proofs.Common.{◌≡◌, ℕ, ◌+◌, ◌-◌, ◌≤◌, List, [], ◌∷◌, length, take, drop, None, Ok, sym, refl, ap, ◌∙◌, subst, arith}
 use Rattle.std.proofs.lemmas.List.{drop-drop, length-take-le}
 use Rattle.task.specs.declared.data.Task.{Task}
 use Rattle.task.specs.Benches.{Bench, Lawful}
@@ -18,9 +18,9 @@ use Rattle.search.specs.Rows.{plan_of}
 use Rattle.search.specs.Steps.{Quest, problem, State, Outcome, advance}
 use Rattle.search.specs.Lined.{Lined}
 use Rattle.search.specs.Counts.{outcome_of, state_of, Sound}
-use Rattle.search.specs.Session.{Lengths, End, found, Phase, searching, ended, Call, advancing, Answer, working, has_found, has_none, is_full, advance_fault, went, gone, after, state, answer}
-use Rattle.search.specs.Left.{OfTask, Written, quest, old_quest, end_of, plan_at, plan_found, LeftSearch, LeftEnded, Went}
-use Rattle.search.specs.Conclusions.{Goes_on, EndsSo, Concluded}
+use Rattle.search.specs.Session.{Lengths, found, searching, ended, Call, advancing, working, has_found, has_none, is_full, advance_fault, went, gone, after, state}
+use Rattle.search.specs.Left.{OfTask, Written, quest, end_of, plan_at, LeftSearch, LeftEnded, Went}
+use Rattle.search.specs.Conclusions.{EndsSo, Concluded}
 use Rattle.search.proofs.Promises.{promised}
 use Rattle.search.proofs.Sessions.{advance_by}
 use Rattle.search.proofs.Sound.{sound}

@@ -1,7 +1,7 @@
 -- What a search takes for granted holds of a lawful bench.
 use Rattle.std.proofs.Common.{◌≡◌, ℕ, zero, suc, ◌+◌, ◌<◌, ◌≤◌, Bool, true, false, cond, ◌&&◌, ltb, ◌≢◌, List, [], ◌∷◌, length, get_or, take, set, Some, None, refl, ap, ◌∙◌, inl, inr, add-zero, zero-add, arith, length-set, get_or-set_other, get_or-set_same}
 use lib.ListN.{length-map}
-use Rattle.std.specs.List.{AllByRecursion as All}
+use Rattle.std.specs.List.{AllByRecursion}
 use Rattle.std.proofs.ByRecursion.{All-get_or}
 use Rattle.std.proofs.lemmas.List.{get_or_default, get_or-map, get_or-take, length-take-le}
 use Rattle.std.proofs.lemmas.Bool.{and_parts, cases_eq, ltb-true, lt-ltb}
@@ -30,7 +30,7 @@ module _ (task : Task) (table : List Action) (long : task.actions ≤ length tab
   act_is k d l = let n : k < length (take task.actions table) = omega (arith, taken_all) in get_or-map act_of (take task.actions table) k d idle n ∙ ap act_of (get_or-take task.actions table k d l)
 
 module _ (b : Bench) where
-  assigned_setting : length b.sizes ≤ 64 → (atoms : List Atom) (s : List ℕ) → All (Inside b.sizes) atoms → SettingOf b s → SettingOf b (assigned s atoms)
+  assigned_setting : length b.sizes ≤ 64 → (atoms : List Atom) (s : List ℕ) → AllByRecursion (Inside b.sizes) atoms → SettingOf b s → SettingOf b (assigned s atoms)
   assigned_setting few [] s inside h = h
   assigned_setting few (a ∷ more) s inside h = assigned_setting few more (set s a.variable a.value) inside.1 (record {
     places = length-set s a.variable a.value ∙ h.places;

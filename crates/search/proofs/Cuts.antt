@@ -1,5 +1,5 @@
 -- A queue in the first places of a table, where the table is cut behind it.
-use Rattle.std.proofs.Common.{◌≡◌, ℕ, ◌<◌, ◌≤◌, Bool, List, [], ◌∷◌, ◌++◌, map, length, get_or, take, sym, refl, ap, ◌∙◌, subst, arith, length-append, length-take, get_or-take, take-take}
+use Rattle.std.proofs.Common.{◌≡◌, ℕ, ◌<◌, ◌≤◌, Bool, List, ◌++◌, length, get_or, take, sym, ap, ◌∙◌, subst, arith, length-append, length-take, get_or-take, take-take}
 use lib.Seq.{take-append-le}
 use Rattle.std.proofs.lemmas.List.{take-map, map-append, length-map, get_or_append_left}
 use Rattle.search.specs.declared.data.Row.{Row}

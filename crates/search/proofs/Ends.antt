@@ -1,7 +1,7 @@
 -- What each end of a search says, and that a search ends.
 use Rattle.std.proofs.Common.{◌≡◌, ℕ, zero, suc, ◌<◌, ◌≤◌, Bool, true, false, cond, ◌⊎◌, List, [], ◌∷◌, ◌++◌, map, length, get_or, None, filter, sym, refl, ap, ◌∙◌, subst, inl, inr, append-nil, arith}
 use lib.ListN.{length-map}
-use Rattle.std.specs.List.{AllByRecursion as All}
+use Rattle.std.specs.List.{AllByRecursion}
 use Rattle.std.proofs.ByRecursion.{All-push}
 use Rattle.std.proofs.lemmas.List.{length_push}
 use Rattle.std.proofs.lemmas.Bool.{cases_Bool}
@@ -20,12 +20,12 @@ use Rattle.search.proofs.Expansion.{Known}
 abbrev pub settings : {C : Type 0} → List (Row C) → List (List ℕ)
 settings rows = map (λ r. r.setting) rows
 
-apart_push : (ss : List (List ℕ)) (t : List ℕ) → Apart ss → All (λ s. s ≡ t → ⊥) ss → Apart (ss ++ t ∷ [])
+apart_push : (ss : List (List ℕ)) (t : List ℕ) → Apart ss → AllByRecursion (λ s. s ≡ t → ⊥) ss → Apart (ss ++ t ∷ [])
 apart_push [] t a h = (tt, tt)
 apart_push (s ∷ ss) t a h = (All-push (λ u. s ≡ u → ⊥) ss t a.0 h.0, apart_push ss t a.1 h.1)
 
 module _ {C : Type 0} where
-  all_rows : (Q : List ℕ → Type 0) (d : Row C) (rows : List (Row C)) → ((k : ℕ) → k < length rows → Q (get_or rows k d).setting) → All Q (settings rows)
+  all_rows : (Q : List ℕ → Type 0) (d : Row C) (rows : List (Row C)) → ((k : ℕ) → k < length rows → Q (get_or rows k d).setting) → AllByRecursion Q (settings rows)
   all_rows Q d [] h = tt
   all_rows Q d (r ∷ rows) h = (h 0 (omega arith), all_rows Q d rows (λ k l. h (suc k) (omega arith)))
 
@@ -36,11 +36,11 @@ module _ {C : Type 0} where
     apart_rows d rows (λ j k lj lk e. let z = h (suc j) (suc k) (omega arith) (omega arith) e in omega arith),
   )
 
-  all_kept : (Q : List ℕ → Type 0) (p : Row C → Bool) (rows : List (Row C)) → All Q (settings rows) → All Q (settings (filter p rows))
+  all_kept : (Q : List ℕ → Type 0) (p : Row C → Bool) (rows : List (Row C)) → AllByRecursion Q (settings rows) → AllByRecursion Q (settings (filter p rows))
   all_kept Q p [] h = tt
   all_kept Q p (r ∷ rows) h = by (p r) (all_kept Q p rows h.1)
     where
-      by : (b : Bool) → All Q (settings (filter p rows)) → All Q (settings (cond b (r ∷ filter p rows) (filter p rows)))
+      by : (b : Bool) → AllByRecursion Q (settings (filter p rows)) → AllByRecursion Q (settings (cond b (r ∷ filter p rows) (filter p rows)))
       by true ih = (h.0, ih)
       by false ih = ih
 
@@ -197,7 +197,7 @@ module _ {C : Type 0} (P : Problem C) (Proper : List ℕ → Type 0) where
     pub all : List (List ℕ)
     pub more : P.quest.capacity < length all
     pub apart : Apart all
-    pub each : All (Near some) all
+    pub each : AllByRecursion (Near some) all
 
   pub too_many : {some : List ℕ → ℕ → Bool} {n : ℕ} (rows : List (Row C)) → Overfull P Proper some n rows → TooManyRows some
   too_many {some} rows o =
@@ -242,7 +242,7 @@ module _ {C : Type 0} (P : Problem C) (Proper : List ℕ → Type 0) where
     pub around : List (List ℕ)
     pub more : P.quest.capacity < length around
     pub apart : Apart around
-    pub each : All (NextTo some all) around
+    pub each : AllByRecursion (NextTo some all) around
 
   pub spill : {some : List ℕ → ℕ → Bool} {n : ℕ} (rows : List (Row C)) → Overfull P Proper some n rows → Spill some (settings (filter (λ r. r.closed) rows))
   spill {some} rows o =
@@ -261,7 +261,7 @@ module _ {C : Type 0} (P : Problem C) (Proper : List ℕ → Type 0) where
     pub all : List (List ℕ)
     pub number : n ≡ length all
     pub apart : Apart all
-    pub each : All (Near some) all
+    pub each : AllByRecursion (Near some) all
     pub also : Also all
 
   pub tally : {some : List ℕ → ℕ → Bool} {n : ℕ} {level : C} {Also : List (List ℕ) → Type 0} (rows : List (Row C)) → Inv P Proper some rows level → shuts rows ≡ n → Also (settings (filter (λ r. r.closed) rows)) → Tally some n Also

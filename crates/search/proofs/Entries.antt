@@ -1,5 +1,5 @@
 -- The two parts of a queue's table.
-use Rattle.std.proofs.Common.{◌≡◌, ℕ, ◌<◌, ◌≤◌, List, map, length, get_or, take, set, sym, refl, ap, ◌∙◌, subst, arith, length-take, get_or-take}
+use Rattle.std.proofs.Common.{◌≡◌, ℕ, ◌<◌, ◌≤◌, List, map, length, get_or, take, set, sym, ap, ◌∙◌, subst, arith, length-take, get_or-take}
 use lib.ListN.{get_or-map}
 use lib.Seq.{take-set-lt}
 use Rattle.std.specs.List.{swap}

@@ -1,5 +1,5 @@
 -- One check after the other.
-use Rattle.std.proofs.Common.{◌≡◌, ℕ, ◌≤◌, Bool, true, false, cond, ltb, List, length, take, replicate, Some, None, Option, sym, refl, ap, ◌∙◌}
+use Rattle.std.proofs.Common.{◌≡◌, ℕ, ◌≤◌, Bool, true, false, cond, ltb, List, length, take, replicate, Some, None, Option, refl, ap, ◌∙◌}
 use lib.ListN.{length-replicate}
 use Rattle.std.specs.Option.{option_or}
 use Rattle.task.specs.declared.data.Action.{Action}

@@ -1,5 +1,5 @@
 -- What `rise` and `sink` make of a queue.
-use Rattle.std.proofs.Common.{◌≡◌, ℕ, ◌+◌, ◌-◌, ◌<◌, ◌≤◌, Bool, true, false, List, [], ◌∷◌, ◌++◌, length, get_or, take, drop, set, sym, refl, ap, ◌∙◌, subst, add-one, arith, length-set, length-take, get_or-set_other, get_or-take, get_or-set_same, take-take, take-suc-set}
+use Rattle.std.proofs.Common.{◌≡◌, ℕ, ◌+◌, ◌-◌, ◌<◌, ◌≤◌, Bool, true, false, List, [], ◌∷◌, ◌++◌, length, get_or, take, set, sym, ap, ◌∙◌, subst, add-one, arith, length-set, length-take, get_or-set_other, get_or-take, get_or-set_same, take-take, take-suc-set}
 use lib.Seq.{take-set-lt}
 use Rattle.std.specs.List.Sorted.{IsPermutation}
 use Rattle.std.specs.Slice.Heapsort.{IsHeapWithin, IsNotBelowChildren}
@@ -9,11 +9,11 @@ use Rattle.std.specs.BinaryHeap.{lt_by_cmp, IsHeap}
 use Rattle.std.specs.BinaryHeap.Sift.{IsHeapWithHole, SiftsUp, SiftsDown, RestoresHeap}
 use Rattle.std.proofs.lemmas.List.{get_or_default}
 use Rattle.std.proofs.lemmas.List.Sorted.{IsPermutation-trans, IsPermutation-sym, IsPermutation-cons, IsPermutation-to_front, length_permutation}
-use Rattle.std.proofs.Permutation.{taken-first, every_at}
+use Rattle.std.proofs.Permutation.{taken_at, every_at}
 use Rattle.std.proofs.HeapSift as sifts
 use Rattle.tariff.specs.Charges.{Charges}
 use Rattle.search.specs.declared.entry.Waiting.{Waiting}
-use Rattle.search.specs.Queues.{sooner, Queued, Least, Lowered, Told}
+use Rattle.search.specs.Queues.{sooner, Queued, Least, Lowered, turned_order}
 use Rattle.search.proofs.Ranks.{queue_order}
 
 module _ {X : Type 0} where
@@ -49,12 +49,12 @@ module _ {X : Type 0} (lt : X → X → Bool) (o : IsStrictWeakOrder lt) (xs : L
   )
 
 module _ {C : Type 0} (K : Charges C) where
-  heaped : (xs : List (Waiting C)) → Queued K.le xs → IsHeap (queue_order K) xs
-  unfolding Queued IsHeap queue_order
+  heaped : (xs : List (Waiting C)) → Queued K.le xs → IsHeap (turned_order K.le) xs
+  unfolding Queued IsHeap
   heaped xs h = h
 
-  queued : (xs : List (Waiting C)) → IsHeap (queue_order K) xs → Queued K.le xs
-  unfolding Queued IsHeap queue_order
+  queued : (xs : List (Waiting C)) → IsHeap (turned_order K.le) xs → Queued K.le xs
+  unfolding Queued IsHeap
   queued xs h = h
 
   module _ (heap : List (Waiting C)) (n : ℕ) (e : Waiting C) (ys zs : List (Waiting C)) (room : n < length heap) (is : ys ≡ take (n + 1) (set heap n e)) (moved : IsPermutation ys zs) where
@@ -64,14 +64,13 @@ module _ {C : Type 0} (K : Charges C) where
     pub push_length : length zs ≡ n + 1
     push_length = length_permutation ys zs moved ∙ ap length is ∙ length_front (set heap n e) (n + 1) (simp length-set (omega arith))
 
-    pub push_queued : SiftsUp (Told K.le) ys n zs → Queued K.le (take n heap) → Queued K.le zs
-    push_queued rises was = queued zs (sifts.pushed (Told K.le) (take n heap) (e ∷ []) ys zs n (sym (length_front heap n (omega arith))) appended push_length rises (queue_order K) (heaped (take n heap) was))
+    pub push_queued : SiftsUp (turned_order K.le) ys n zs → Queued K.le (take n heap) → Queued K.le zs
+    push_queued rises was = queued zs (sifts.pushed (turned_order K.le) (queue_order K) (take n heap) (e ∷ []) ys zs n (sym (length_front heap n (omega arith))) appended push_length rises (heaped (take n heap) was))
 
     pub push_held : IsPermutation (e ∷ take n heap) zs
     push_held = IsPermutation-trans _ _ _ (subst (IsPermutation (e ∷ take n heap)) (sym appended) (IsPermutation-sym _ _ (IsPermutation-to_front (take n heap) e))) moved
 
   pub first_least : (xs : List (Waiting C)) (x : Waiting C) → x ≡ get_or xs 0 x → Queued K.le xs → Least K.le x xs
-  unfolding queue_order
   first_least xs x is was = λ k h. every_at _ xs k x h (sifts.greatest (queue_order K) xs x is (heaped xs was))
 
   module _ (heap : List (Waiting C)) (n : ℕ) (x last : Waiting C) (ys zs : List (Waiting C)) (some : 0 < n) (fits : n ≤ length heap) (first : x ≡ get_or heap 0 x) (end : last ≡ get_or heap (n - 1) last) (is : ys ≡ take (n - 1) (set heap 0 last)) (moved : IsPermutation ys zs) where
@@ -81,19 +80,19 @@ module _ {C : Type 0} (K : Charges C) where
     pub pop_length : length zs ≡ n - 1
     pop_length = length_permutation ys zs moved ∙ ap length is ∙ length_front (set heap 0 last) (n - 1) (simp length-set (omega arith))
 
-    mends : SiftsDown (Told K.le) ys 0 (n - 1) zs → RestoresHeap (Told K.le) ys 1 (n - 1) zs
+    mends : SiftsDown (turned_order K.le) ys 0 (n - 1) zs → RestoresHeap (turned_order K.le) ys 1 (n - 1) zs
     unfolding SiftsDown RestoresHeap IsHeap
-    mends sinks = λ o h. subst (IsHeapWithin (lt_by_cmp o) zs 0) (sym pop_length) (sinks.1 o h)
+    mends sinks = λ h. subst (IsHeapWithin (lt_by_cmp (turned_order K.le)) zs 0) (sym pop_length) (sinks.1 h)
 
-    pub pop_queued : SiftsDown (Told K.le) ys 0 (n - 1) zs → Queued K.le (take n heap) → Queued K.le zs
+    pub pop_queued : SiftsDown (turned_order K.le) ys 0 (n - 1) zs → Queued K.le (take n heap) → Queued K.le zs
     pop_queued sinks was =
         let long = length_front heap n fits in
-        queued zs (sifts.popped (Told K.le) (take n heap) ys zs x (n - 1) (omega arith) first_front (is ∙ fronted heap n x last some fits end) (mends sinks) (queue_order K) (heaped (take n heap) was)).0
+        queued zs (sifts.popped (turned_order K.le) (queue_order K) (take n heap) ys zs x (n - 1) (omega arith) first_front (is ∙ fronted heap n x last some fits end) (mends sinks) (heaped (take n heap) was)).0
 
     pub pop_held : IsPermutation (take n heap) (x ∷ zs)
     pop_held =
         let long = length_front heap n fits in
-        IsPermutation-trans _ (x ∷ ys) _ (subst (λ l. IsPermutation (take n heap) (x ∷ l)) (sym (is ∙ fronted heap n x last some fits end)) (taken-first (take n heap) x (omega arith) first_front)) (IsPermutation-cons x ys zs moved)
+        IsPermutation-trans _ (x ∷ ys) _ (subst (λ l. IsPermutation (take n heap) (x ∷ l)) (sym (is ∙ fronted heap n x last some fits end)) (taken_at (take n heap) 0 x (omega arith) first_front)) (IsPermutation-cons x ys zs moved)
 
   module _ (heap : List (Waiting C)) (n j : ℕ) (x e : Waiting C) (ys zs : List (Waiting C)) (within : j < n) (fits : n ≤ length heap) (was_at : x ≡ get_or heap j x) (lower : sooner K.le e x ≡ true) (is : ys ≡ take n (set heap j e)) (moved : IsPermutation ys zs) where
     set_front : ys ≡ set (take n heap) j e
@@ -105,13 +104,13 @@ module _ {C : Type 0} (K : Charges C) where
     pub lower_length : length zs ≡ n
     lower_length = length_permutation ys zs moved ∙ ap length is ∙ length_front (set heap j e) n (simp length-set (omega arith))
 
-    pub lower_queued : SiftsUp (Told K.le) ys j zs → Queued K.le (take n heap) → Queued K.le zs
-    unfolding Queued SiftsUp queue_order
+    pub lower_queued : SiftsUp (turned_order K.le) ys j zs → Queued K.le (take n heap) → Queued K.le zs
+    unfolding Queued SiftsUp
     lower_queued rises was =
         let long = length_front heap n fits in
-        let o = queue_order K in
-        let gap = raised (lt_by_cmp o) (sifts.ranks o) (take n heap) j (length (take n heap)) e (omega arith) was (λ d. ap (λ y. sooner K.le e y) (at_front d) ∙ lower) in
-        subst (IsHeapWithin (lt_by_cmp o) zs 0) (long ∙ sym lower_length) (rises o (length (take n heap)) (omega arith) (subst (λ l. IsHeapWithHole (lt_by_cmp o) l j (length (take n heap)) × IsNotBelowChildren (lt_by_cmp o) l j j (length (take n heap))) (sym set_front) gap))
+        let lt = lt_by_cmp (turned_order K.le) in
+        let gap = raised lt (sifts.ranks (queue_order K)) (take n heap) j (length (take n heap)) e (omega arith) was (λ d. ap (λ y. sooner K.le e y) (at_front d) ∙ lower) in
+        subst (IsHeapWithin lt zs 0) (long ∙ sym lower_length) (rises (length (take n heap)) (omega arith) (subst (λ l. IsHeapWithHole lt l j (length (take n heap)) × IsNotBelowChildren lt l j j (length (take n heap))) (sym set_front) gap))
 
     pub lower_held : x.row ≡ e.row → Lowered K.le e (take n heap) zs true
     lower_held same =

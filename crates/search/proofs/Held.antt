@@ -1,7 +1,7 @@
 -- The sums that a search forms are of few actions.
-use Rattle.std.proofs.Common.{◌≡◌, ℕ, zero, ◌<◌, ◌≤◌, Bool, List, [], ◌∷◌, ◌++◌, map, length, drop, sym, refl, ap, ◌∙◌, arith, length-drop}
+use Rattle.std.proofs.Common.{◌≡◌, ℕ, ◌<◌, ◌≤◌, Bool, List, [], ◌∷◌, ◌++◌, map, length, drop, sym, refl, ap, ◌∙◌, arith, length-drop}
 use lib.ListN.{length-map}
-use Rattle.std.specs.List.{AllByRecursion as All}
+use Rattle.std.specs.List.{AllByRecursion}
 use Rattle.std.proofs.ByRecursion.{All-push, All-map, All-weaker, All-drop, All-from_get_or}
 use Rattle.std.proofs.lemmas.List.{length_push}
 use Rattle.task.specs.Benches.{Bench, world, act, Plan, Lawful, SettingOf}
@@ -20,15 +20,15 @@ use Rattle.search.proofs.Benches.{numbered, billable}
 use Rattle.search.proofs.Promises.{live_ran, fits_at}
 
 module _ {C : Type 0} (b : Bench) (K : Charges C) (lawful : Lawful b) where
-  numbers_billed : (numbers : List ℕ) → All (λ k. k < length b.actions) numbers → All Billable (map (act b) numbers)
+  numbers_billed : (numbers : List ℕ) → AllByRecursion (λ k. k < length b.actions) numbers → AllByRecursion Billable (map (act b) numbers)
   numbers_billed numbers h = All-map Billable (act b) numbers (All-weaker (λ k. k < length b.actions) (λ k. Billable (act b k)) (billable b lawful) numbers h)
 
-  leads_numbered : (marks : List ℕ → ℕ → Bool) (s way t : List ℕ) → Leads (world b) marks s way t → All (λ k. k < length b.actions) way
+  leads_numbered : (marks : List ℕ → ℕ → Bool) (s way t : List ℕ) → Leads (world b) marks s way t → AllByRecursion (λ k. k < length b.actions) way
   leads_numbered marks s [] t h = tt
   leads_numbered marks s (k ∷ way) t h = (numbered b s k h.1, leads_numbered marks ((world b).next s k) way t h.2)
 
   -- each number of a plan names an action
-  pub plan_numbered : (s plan : List ℕ) → Plan (world b) s plan → All (λ k. k < length b.actions) plan
+  pub plan_numbered : (s plan : List ℕ) → Plan (world b) s plan → AllByRecursion (λ k. k < length b.actions) plan
   plan_numbered s [] p = tt
   plan_numbered s (k ∷ plan) p = (numbered b s k p.0, plan_numbered ((world b).next s k) plan p.1)
 
@@ -44,7 +44,7 @@ module _ {C : Type 0} (b : Bench) (K : Charges C) (lawful : Lawful b) where
       }
 
   -- after any steps of any rule, any action can be added to any row's charge
-  pub always_addable : (calls : List (Call C)) (q : Quest C) (rows : List (Row C)) (n : ℕ) → state b K calls ≡ searching q rows n → (m : Marking) (j : ℕ) → All (λ r. Addable (problem b K q) r.charge) (advance (problem b K q) (m.marks b) j rows n).rows
+  pub always_addable : (calls : List (Call C)) (q : Quest C) (rows : List (Row C)) (n : ℕ) → state b K calls ≡ searching q rows n → (m : Marking) (j : ℕ) → AllByRecursion (λ r. Addable (problem b K q) r.charge) (advance (problem b K q) (m.marks b) j rows n).rows
   always_addable calls q rows n e m j =
       let live = fits_at b K lawful calls (searching q rows n) e in
       let r = live_ran b K lawful q (accepted b K calls) j m n rows live j in
@@ -55,7 +55,7 @@ module _ {C : Type 0} (b : Bench) (K : Charges C) (lawful : Lawful b) where
   pub record Few (q : Quest C) (plan : List ℕ) (k : ℕ) : Type 0 where
     pub rows : q.capacity ≤ 65535
     pub short : length plan < q.capacity
-    pub numbers : All (λ x. x < length b.actions) plan
+    pub numbers : AllByRecursion (λ x. x < length b.actions) plan
     pub rest : Reached K.zero K.plus K.charge (charge_of b K (drop k plan))
 
   pub in_hand : (calls : List (Call C)) (q : Quest C) (c : C) (plan : List ℕ) (k n : ℕ) → state b K calls ≡ ended q (found c plan k) n → Few q plan k

@@ -21,7 +21,6 @@ pub mod Plans
 mod Lines
 pub mod Sessions
 pub mod Takings
-mod Seeks
 mod Placings
 mod Sweeps
 mod Running

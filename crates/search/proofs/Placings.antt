@@ -1,12 +1,12 @@
 -- A row that is kept, lowered, added or closed in the table, and what that does to the used rows.
-use Rattle.std.proofs.Common.{◌≡◌, ℕ, ◌+◌, ◌-◌, ◌<◌, ◌≤◌, Bool, true, false, cond, not, ltb, List, [], ◌∷◌, ◌++◌, length, get_or, take, drop, set, Less, Equal, Greater, sym, refl, ap, ◌∙◌, subst, arith, get_or-take}
+use Rattle.std.proofs.Common.{◌≡◌, ℕ, ◌+◌, ◌-◌, ◌<◌, ◌≤◌, Bool, true, false, cond, not, ltb, List, [], ◌∷◌, ◌++◌, length, get_or, take, drop, set, Less, Equal, Greater, sym, refl, ap, ◌∙◌, arith, get_or-take}
 use lib.Seq.{take-set-lt}
 use Rattle.std.proofs.lemmas.Bool.{cond-true, cond-false, lt-ltb, le-ltb}
 use Rattle.std.proofs.lemmas.List.{get_or_default, length-take-le, drop-drop}
 use Rattle.tariff.specs.Charges.{Charges}
 use Rattle.tariff.specs.Totals.{ordered}
 use Rattle.search.specs.declared.data.Row.{Row}
-use Rattle.search.specs.Rows.{Swept, on, over, seek, lowered, settled, place, row, blank}
+use Rattle.search.specs.Rows.{on, over, seek, lowered, settled, place, row, blank}
 use Rattle.search.proofs.Sums.{not_le}
 
 -- what a comparison tells

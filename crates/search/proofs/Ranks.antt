@@ -1,11 +1,10 @@
 -- A tariff's laws make the order of a queue total.
-use Rattle.std.proofs.Common.{◌≡◌, ℕ, ◌<◌, ◌≤◌, Bool, true, false, cond, ◌||◌, eqb, ltb, ◌⊎◌, List, Ordering, Less, Equal, Greater, sym, refl, ap, ◌∙◌, inl, inr, arith, ltb-false, ltb-true, lt-ltb, eq-eqb, eqb-true}
-use borrow.Author.Tests.{eqb-false}
+use Rattle.std.proofs.Common.{◌≡◌, ℕ, ◌<◌, Bool, true, false, cond, ◌||◌, eqb, ltb, Ordering, Less, Equal, Greater, sym, refl, ap, arith, ltb-false, ltb-true, lt-ltb, eq-eqb, eqb-true}
 use Rattle.std.specs.Ordering.{ordering_then, ordering_reverse}
 use Rattle.std.specs.Cmp.{IsTotalOrder}
 use Rattle.tariff.specs.Charges.{Charges}
 use Rattle.search.specs.declared.entry.Waiting.{Waiting}
-use Rattle.search.specs.Queues.{numbered, order, Told}
+use Rattle.search.specs.Queues.{numbered, order, turned_order}
 
 clash : {A : Type 0} (b : Bool) → b ≡ true → b ≡ false → A
 clash b p q = absurd (let z : ◌≡◌ {A = ℕ} 0 1 = cc in omega arith)
@@ -85,11 +84,9 @@ module _ {C : Type 0} (K : Charges C) where
       let rows = numbered_equal a.row b.row e.2 in
       λ k. record { charge = charges k; row = rows k }
 
-  unfoldable pub queue_order : IsTotalOrder (Told K.le)
+  unfoldable pub queue_order : IsTotalOrder (turned_order K.le)
   queue_order = record {
-    cmp = λ x y. order K.le y x;
-    says = λ x y r h. h;
-    flip = λ x y. order_flip y x;
+    antisymm = λ x y. order_flip y x;
     trans = λ x y z p q. order_trans z y x q p;
-    alike = λ x y z h. ap (λ (w : Waiting C). order K.le z w) (sym (order_equal y x h));
+    congr = λ x y z h. ap (λ (w : Waiting C). order K.le z w) (sym (order_equal y x h));
   }

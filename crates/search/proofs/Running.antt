@@ -1,6 +1,6 @@
 -- The steps of a search on its tables, so far.
 use Rattle.std.proofs.Common.{◌≡◌, ℕ, suc, ◌+◌, ◌<◌, ◌≤◌, Bool, false, List, length, get_or, take, drop, Some, sym, ap, ◌∙◌, subst, add-one, get_or-take}
-use Rattle.std.specs.List.{AllByRecursion as All}
+use Rattle.std.specs.List.{AllByRecursion}
 use Rattle.std.proofs.ByRecursion.{All-get_or}
 use Rattle.task.specs.Benches.{Bench, Lawful, SettingOf, world}
 use Rattle.tariff.specs.Charges.{Charges}
@@ -38,7 +38,7 @@ module _ {C : Type 0} (b : Bench) (K : Charges C) (q : Quest C) (marking : List 
   goes_on rows' e j = step_on (problem b K q) marking rows n i first j (on rows') off (sym e) ∙ ap (advance (problem b K q) marking j rows') (sym (add-one n))
 
   pub still_sound : (rows' : List (Row C)) → on rows' ≡ expand (problem b K q) marking rows i → Sound b K q marking rows n → Sound b K q marking rows' (n + 1)
-  still_sound rows' e s j = subst (λ (st : State C). All (λ (r : Row C). SettingOf b r.setting × Addable (problem b K q) r.charge) st.rows) (goes_on rows' e j) (s (suc j))
+  still_sound rows' e s j = subst (λ (st : State C). AllByRecursion (λ (r : Row C). SettingOf b r.setting × Addable (problem b K q) r.charge) st.rows) (goes_on rows' e j) (s (suc j))
 
   -- no row was left
   pub ends_full : (rows' : List (Row C)) → over rows' ≡ expand (problem b K q) marking rows i → (j : ℕ) → advance (problem b K q) marking (suc j) rows n ≡ record { rows = rows'; count = n + 1; outcome = crowded }

@@ -1,5 +1,5 @@
 -- What a call comes to, by whether it is refused.
-use Rattle.std.proofs.Common.{◌≡◌, ℕ, ◌<◌, ◌≤◌, Bool, true, false, List, length, replicate, Some, None, Option, sym, refl, ap, ◌∙◌, subst, arith}
+use Rattle.std.proofs.Common.{◌≡◌, ℕ, ◌<◌, ◌≤◌, List, length, replicate, None, Option, sym, refl, ap, ◌∙◌, arith}
 use lib.ListN.{length-replicate}
 use Rattle.task.specs.declared.refusal.Refusal.{Refusal}
 use Rattle.task.specs.Benches.{Bench}
@@ -9,10 +9,10 @@ use Rattle.search.specs.declared.data.Row.{Row}
 use Rattle.search.specs.declared.phase.Ending.{Ending}
 use Rattle.search.specs.declared.phase.Ending.TheVariants.{Found, NoPlan, Full}
 use Rattle.search.specs.declared.phase.Ended.{Ended}
-use Rattle.search.specs.Steps.{Quest, problem, State, advance, first_rows}
-use Rattle.search.specs.Session.{Lengths, End, Phase, resting, searching, ended, Call, beginning, advancing, taking, Answer, began, refused, begin_fault, advance_fault, take_fault, end_fault, unless, gone, taken, after, state}
+use Rattle.search.specs.Steps.{Quest, problem, advance, first_rows}
+use Rattle.search.specs.Session.{Lengths, End, resting, searching, ended, Call, beginning, advancing, taking, began, begin_fault, advance_fault, take_fault, end_fault, unless, gone, taken, after, state}
 use Rattle.search.specs.Left.{lengths, OfTask, end_of}
-use Rattle.search.proofs.Lent.{Takable, takable, step_left}
+use Rattle.search.proofs.Lent.{takable, step_left}
 use Rattle.search.proofs.Benches.{some_none}
 use Rattle.search.proofs.Faults.{some_bench, bench_is}
 

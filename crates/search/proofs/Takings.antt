@@ -1,6 +1,6 @@
 -- What a Take comes to.
-use Rattle.std.proofs.Common.{◌≡◌, ℕ, suc, ◌+◌, ◌<◌, ◌≤◌, Bool, true, false, cond, ltb, List, [], ◌∷◌, map, length, get_or, take, drop, Some, None, Option, sym, refl, ap, ◌∙◌, subst, add-one, arith, length-drop, get_or-take}
-use Rattle.std.specs.List.{between, AllByRecursion as All}
+use Rattle.std.proofs.Common.{◌≡◌, ℕ, suc, ◌+◌, ◌<◌, ◌≤◌, ltb, List, [], ◌∷◌, map, length, get_or, take, drop, Some, None, sym, refl, ap, ◌∙◌, add-one, arith, length-drop, get_or-take}
+use Rattle.std.specs.List.{between, AllByRecursion}
 use Rattle.std.proofs.ByRecursion.{All-drop}
 use Rattle.std.proofs.lemmas.Slice.{between_is}
 use Rattle.std.proofs.lemmas.Bool.{cond-true, cond-false, lt-ltb, le-ltb}
@@ -12,21 +12,19 @@ use Rattle.tariff.specs.declared.charge.Total.{Total}
 use Rattle.tariff.specs.declared.charge.Total.TheVariants.{TooMany}
 use Rattle.tariff.specs.Charges.{Charges, Reached}
 use Rattle.tariff.specs.Totals as totals
-use Rattle.search.specs.declared.phase.Ending.{Ending}
-use Rattle.search.specs.declared.phase.Ending.TheVariants.{Found}
 use Rattle.search.specs.declared.phase.Ended.{Ended}
-use Rattle.search.specs.Session.{Lengths, Phase, ended, found, Call, taking, Answer, do_next, take_fault, taken, after, state, charge_of}
+use Rattle.search.specs.Session.{Lengths, ended, found, Call, taking, do_next, take_fault, taken, after, state, charge_of}
 use Rattle.search.specs.Left.{ActionsLent, LeftEnded, old_quest, end_of, sum_or, sum_or_most}
 use Rattle.search.proofs.Held.{in_hand}
 use Rattle.search.proofs.Sessions.{CanTake, take_by}
 
 -- no number is past the limit
-none_stray : (limit i : ℕ) (numbers : List ℕ) → All (λ k. k < limit) numbers → totals.stray limit i numbers ≡ None
+none_stray : (limit i : ℕ) (numbers : List ℕ) → AllByRecursion (λ k. k < limit) numbers → totals.stray limit i numbers ≡ None
 none_stray limit i [] all = refl
 none_stray limit i (k ∷ more) all = cond-true (ltb k limit) (totals.stray limit (i + 1) more) (Some i) (lt-ltb k limit all.0) ∙ none_stray limit (i + 1) more all.1
 
 -- few actions of the table: their sum is the charge
-exact : {C : Type 0} (K : Charges C) (acts : List Act) (numbers : List ℕ) → length numbers ≤ 65536 → All (λ k. k < length acts) numbers → Reached K.zero K.plus K.charge (totals.charge_of K acts numbers) → sum_or_most K acts numbers ≡ totals.charge_of K acts numbers
+exact : {C : Type 0} (K : Charges C) (acts : List Act) (numbers : List ℕ) → length numbers ≤ 65536 → AllByRecursion (λ k. k < length acts) numbers → Reached K.zero K.plus K.charge (totals.charge_of K acts numbers) → sum_or_most K acts numbers ≡ totals.charge_of K acts numbers
 exact {C} K acts numbers few all reached =
     let sum = totals.charge_of K acts numbers in
     let answer : Added C = totals.against K.le K.greatest sum in

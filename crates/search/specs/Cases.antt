@@ -3,15 +3,13 @@ use Rattle.std.specs.Prelude.{◌≡◌, ℕ, List, [], ◌∷◌, replicate, na
 use Rattle.task.specs.declared.refusal.Fault.TheVariants.{NoStepLeft}
 use Rattle.task.specs.Refusals.{refusal}
 use Rattle.task.specs.Benches.{Bench}
-use Rattle.tariff.specs.declared.charge.Pressed.{Pressed}
 use Rattle.tariff.specs.Charges.{Charges}
 use Rattle.tariff.specs.Time.{time}
 use Rattle.tariff.specs.Presses.{pressed, pressing}
 use Rattle.rules.specs.Marks.{Marking}
 use Rattle.rules.specs.Rules.{all_marking, stubborn_marking, is, keypad, keypad_start}
 use Rattle.rules.specs.Sets.{stubborn}
-use Rattle.search.specs.Steps.{Quest}
-use Rattle.search.specs.Session.{Lengths, End, found, no_plan, no_row, Phase, ended, Call, beginning, advancing, taking, Answer, refused, state, answer}
+use Rattle.search.specs.Session.{Lengths, End, found, no_plan, no_row, ended, Call, beginning, advancing, taking, refused, state, answer}
 
 -- one variable of three values: in one step from 0 to 2 at 10 tenths, or in two at 2 and 3
 abbrev pub fork : Bench

@@ -1,6 +1,6 @@
 -- The numbers of a search's tables, and what its functions make of them.
 use Rattle.std.specs.Prelude.{◌≡◌, ℕ, ◌+◌, ◌<◌, ◌≤◌, Bool, cond, List, take, ◌==◌, slice_index}
-use Rattle.std.specs.List.{AllByRecursion as All}
+use Rattle.std.specs.List.{AllByRecursion}
 use Rattle.task.specs.Benches.{Bench, SettingOf}
 use Rattle.tariff.specs.Charges.{Charges}
 use Rattle.search.specs.declared.data.Row.{Row}
@@ -75,4 +75,4 @@ state_of r rows = record { rows = take r.sizes.used rows; count = r.expanded; ou
 -- after any steps each row has a setting of the bench, and a charge to which any action's can be added
 abbrev pub Sound : {C : Type 0} → Bench → Charges C → Quest C → (List ℕ → ℕ → Bool) → List (Row C) → ℕ → Type 0
 Sound {C} b K q marks rows n =
-    (j : ℕ) → All (λ (r : Row C). SettingOf b r.setting × Addable (problem b K q) r.charge) (advance (problem b K q) marks j rows n).rows
+    (j : ℕ) → AllByRecursion (λ (r : Row C). SettingOf b r.setting × Addable (problem b K q) r.charge) (advance (problem b K q) marks j rows n).rows

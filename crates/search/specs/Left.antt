@@ -25,7 +25,7 @@ use Rattle.search.specs.declared.phase.Refused.{Refused}
 use Rattle.search.specs.Lined.{Lined}
 use Rattle.search.specs.Rows.{plan_of}
 use Rattle.search.specs.Steps.{Quest, State, Outcome, going, at_goal, exhausted, crowded, problem, advance}
-use Rattle.search.specs.Session.{Lengths, End, found, no_plan, no_row, Phase, resting, searching, ended, Call, advancing, abandoning, began, working, has_found, has_none, is_full, do_next, at_rest, refused, state, answer}
+use Rattle.search.specs.Session.{Lengths, End, found, no_plan, no_row, resting, searching, ended, Call, abandoning, began, working, has_found, has_none, is_full, do_next, at_rest, refused, state, answer}
 use Rattle.search.specs.Promise.{Promise}
 
 -- the lengths of the tables lent: 1 actions, 2 rows, 3 queue, 4 plan list, 5 marks, 6 work

@@ -1,6 +1,6 @@
 -- The queue and the rows together: each open row waits once, at its charge.
 use Rattle.std.specs.Prelude.{◌≡◌, ℕ, zero, suc, ◌≤◌, Bool, cond, List, [], ◌∷◌, length, sum_by, ◌==◌, slice_index_or}
-use Rattle.std.specs.List.{AllByRecursion as All}
+use Rattle.std.specs.List.{AllByRecursion}
 use Rattle.search.specs.declared.data.Row.{Row}
 use Rattle.search.specs.declared.entry.Entry.{Entry}
 use Rattle.search.specs.declared.entry.Waiting.{Waiting}
@@ -23,7 +23,7 @@ AtCharge {C} rows w = (d : Row C) → (slice_index_or rows w.row d).charge ≡ w
 -- each open row waits once, no closed one does, and each waits at its charge
 pub record Matched {C : Type 0} (rows : List (Row C)) (xs : List (Waiting C)) : Type 0 where
   pub once : (j : ℕ) → times j xs ≡ due rows j
-  pub charged : All (AtCharge rows) xs
+  pub charged : AllByRecursion (AtCharge rows) xs
 
 -- the first places of the table are the queue of the rows
 pub record Lined {C : Type 0} (le : C → C → Bool) (rows : List (Row C)) (waiting : ℕ) (table : List (Entry C)) : Type 0 where

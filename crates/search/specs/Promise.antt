@@ -1,6 +1,6 @@
 -- What is promised of every list of calls.
 use Rattle.std.specs.Prelude.{◌≡◌, ℕ, suc, ◌+◌, ◌<◌, ◌≤◌, Bool, true, false, cond, ◌&&◌, ◌||◌, ◌⊎◌, ◌↔◌, List, [], ◌∷◌, length, take, drop, Some, None, Option, ◌≢◌}
-use Rattle.std.specs.List.{AllByRecursion as All}
+use Rattle.std.specs.List.{AllByRecursion}
 use Rattle.task.specs.Benches.{Bench, World, world, Plan}
 use Rattle.tariff.specs.Charges.{Charges}
 use Rattle.rules.specs.Marks.{Marking}
@@ -81,7 +81,7 @@ led W s (k ∷ more) = led W (W.next s k) more
 -- no setting twice
 abbrev pub Apart : List (List ℕ) → Type 0
 Apart [] = Unit {0}
-Apart (s ∷ more) = All (λ t. s ≢ t) more × Apart more
+Apart (s ∷ more) = AllByRecursion (λ t. s ≢ t) more × Apart more
 
 -- the setting is in the list
 abbrev pub Listed : List ℕ → List (List ℕ) → Type 0
@@ -146,14 +146,14 @@ module _ {C : Type 0} (b : Bench) (K : Charges C) where
     pub settings : List (List ℕ)
     pub more : q.capacity < length settings
     pub apart : Apart settings
-    pub each : All (Within marks q) settings
+    pub each : AllByRecursion (Within marks q) settings
 
   -- n different settings, each reached within the bound
   pub record Expanded (marks : List ℕ → ℕ → Bool) (q : Quest C) (n : ℕ) : Type 0 where
     pub settings : List (List ℕ)
     pub number : n ≡ length settings
     pub apart : Apart settings
-    pub each : All (Within marks q) settings
+    pub each : AllByRecursion (Within marks q) settings
 
   -- no plan from the start costs at most the bound
   abbrev pub NoPlanWithin : Quest C → Type 0
@@ -192,7 +192,7 @@ module _ {C : Type 0} (b : Bench) (K : Charges C) where
     pub around : List (List ℕ)
     pub more : q.capacity < length around
     pub apart : Apart around
-    pub each : All (Beside marks q settings) around
+    pub each : AllByRecursion (Beside marks q settings) around
 
   -- these settings are enough for the end. With a plan: all that is reached for less than it costs; with none: all
   -- that is reached within the bound, both by actions that each rule marks; with no row left: so many that what

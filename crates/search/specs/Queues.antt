@@ -1,5 +1,5 @@
 -- The queue of waiting rows: their order, and where each of them lies.
-use Rattle.std.specs.Prelude.{◌≡◌, ℕ, ◌<◌, ◌≤◌, Bool, true, false, cond, List, map, length, get_or, take, ◌==◌, ◌≢◌, nat_lt, slice_index, slice_index_or, slice_set}
+use Rattle.std.specs.Prelude.{◌≡◌, ℕ, ◌<◌, Bool, true, false, cond, List, map, length, get_or, take, ◌==◌, ◌≢◌, nat_lt, slice_index, slice_index_or, slice_set}
 use Rattle.std.specs.declared.cmp.Ordering.TheVariants.{Less, Equal, Greater}
 use Rattle.std.specs.declared.cmp.Ordering.{Ordering}
 use Rattle.std.specs.Ordering.{is_lt, ordering_then}
@@ -50,8 +50,8 @@ Lowered le x xs ys true = (k : ℕ) × (k < length xs) × ((get_or xs k x).row �
 Lowered le x xs ys false = (ys ≡ xs) × ((k : ℕ) → k < length xs → (get_or xs k x).row ≡ x.row → sooner le x (slice_index_or xs k x) ≡ false)
 
 -- the answer of a comparison, the other way round: std's heaps have the greatest first
-abbrev pub Told : {C : Type 0} → (C → C → Bool) → Waiting C → Waiting C → Ordering → Type 0
-Told le x y r = r ≡ order le y x
+abbrev pub turned_order : {C : Type 0} → (C → C → Bool) → Waiting C → Waiting C → Ordering
+turned_order le x y = order le y x
 
 -- the place of each waiting row is noted
 unfoldable pub Noted : {C : Type 0} → List (Waiting C) → List ℕ → Type 0

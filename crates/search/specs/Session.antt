@@ -1,5 +1,5 @@
 -- A session: what a list of calls leads to. The newest call stands first.
-use Rattle.std.specs.Prelude.{ℕ, zero, suc, cond, ◌&&◌, List, [], ◌∷◌, map, length, drop, Some, None, Option, ◌==◌, nat_le, nat_lt, slice_index}
+use Rattle.std.specs.Prelude.{ℕ, suc, cond, ◌&&◌, List, [], ◌∷◌, map, length, drop, Some, None, Option, ◌==◌, nat_le, nat_lt, slice_index}
 use Rattle.task.specs.declared.refusal.Fault.TheVariants.{RowCount, ShortTable, StartOutside, NoPlan, NoStepLeft}
 use Rattle.task.specs.declared.refusal.Refusal.{Refusal}
 use Rattle.task.specs.Refusals.{refusal}

@@ -13,7 +13,7 @@ use task::{Setting, Task};
 
 // The charge of a row; past the last row, zero.
 fn charge_at<T: Tariff>(tariff: &T, rows: &[Row<T::Charge>], at: usize) -> T::Charge
-    ensures { result ≡ (row (charges tariff.now).zero (charges tariff.now).le rows.now at).charge }
+    ensures { result ≡ (row (T.charges tariff.now).zero (T.charges tariff.now).le rows.now at).charge }
 {
     if at < rows.len() {
         rows[at].charge
@@ -58,7 +58,7 @@ pub(crate) fn conclude<T: Tariff>(
 ) -> Advanced<T::Charge>
     requires numbers { (ran.sizes.used ≤ limits.capacity) × (limits.capacity ≤ 65535) × (ran.sizes.waiting ≤ ran.sizes.used) × (ran.expanded + ran.sizes.waiting ≡ ran.sizes.used) }
     requires room { (ran.sizes.used ≤ length rows.now) × (limits.capacity ≤ length plan.old) }
-    ensures { Concluded (charges tariff.now).zero (charges tariff.now).le task (posed start limits) ran (take ran.sizes.used rows.now) plan.old plan.new result }
+    ensures { Concluded (T.charges tariff.now).zero (T.charges tariff.now).le task (posed start limits) ran (take ran.sizes.used rows.now) plan.old plan.new result }
 {
     let count = ran.expanded;
     let used = ran.sizes.used;

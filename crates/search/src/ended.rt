@@ -41,7 +41,7 @@ impl<C: Copy> Ended<C> {
 
 // What the named actions cost together; where they are no actions, the greatest charge.
 fn charge_or_most<T: Tariff>(tariff: &T, actions: &[Action], numbers: &[u16]) -> T::Charge
-    ensures { result ≡ sum_or_most (charges tariff.now) (map act_of actions.now) numbers.now }
+    ensures { result ≡ sum_or_most (T.charges tariff.now) (map act_of actions.now) numbers.now }
 {
     let most = tariff.most();
     match total(tariff, actions, numbers, most) {
@@ -61,7 +61,7 @@ fn next_action<T: Tariff>(
 ) -> (u16, T::Charge)
     requires { (count ≤ length actions.now) × (taken < planned) × (planned ≤ length plan.now) }
     ensures action { result.0 ≡ slice_index plan.now taken }
-    ensures remaining { result.1 ≡ sum_or_most (charges tariff.now) (map act_of (take count actions.now)) (between (taken + 1) planned plan.now) }
+    ensures remaining { result.1 ≡ sum_or_most (T.charges tariff.now) (map act_of (take count actions.now)) (between (taken + 1) planned plan.now) }
 {
     let first = taken + 1;
     let remaining = charge_or_most(tariff, &actions[0..count], &plan[first..planned]);
@@ -75,10 +75,10 @@ pub fn take<T: Tariff>(
     plan: &[u16],
     ended: Ended<T::Charge>,
 ) -> Result<Taken<T::Charge>, Refused<Ended<T::Charge>>>
-    ensures promised { (b : Bench) (calls : List (Call T.Charge)) (rows queue marks work : ℕ) → Lawful b → ActionsLent ended.task b actions.now → LeftEnded b (charges tariff.now) calls ended plan.now → Took b (charges tariff.now) calls (taking (lengths (length actions.now) rows queue (length plan.now) marks work)) result plan.now }
+    ensures promised { (b : Bench) (calls : List (Call T.Charge)) (rows queue marks work : ℕ) → Lawful b → ActionsLent ended.task b actions.now → LeftEnded b (T.charges tariff.now) calls ended plan.now → Took b (T.charges tariff.now) calls (taking (lengths (length actions.now) rows queue (length plan.now) marks work)) result plan.now }
     ensures refused { (b : Bench) (list : List ℕ) (rows queue marks work : ℕ) → OfTask ended.task b → length list ≡ ended.planned → refusal_of result ≡ take_fault b ended.capacity (end_of ended.ending list ended.taken) (lengths (length actions.now) rows queue (length plan.now) marks work) }
     ensures stays { GivenBack ended (Unit {0}) result }
-    ensures next { IfDone (Next (charges tariff.now) ended actions.now plan.now) result }
+    ensures next { IfDone (Next (T.charges tariff.now) ended actions.now plan.now) result }
 {
     if let Some(refusal) = take_fault(&ended, actions.len(), plan.len()) {
         return Err(Refused {

@@ -1,5 +1,6 @@
 // The search for a cheapest plan: its rows, its steps, and what is promised of them.
 #![tactic(auto)]
+
 ghost use Rattle.search.specs.Cases.{Cases};
 
 mod checks;

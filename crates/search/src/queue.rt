@@ -3,7 +3,7 @@ ghost use Rattle.std.specs.Prelude.{◌≡◌, ℕ, ◌+◌, ◌-◌, ◌*◌, �
 ghost use Rattle.std.specs.List.Sorted.{IsPermutation};
 ghost use Rattle.std.specs.List.{swap};
 ghost use Rattle.std.specs.BinaryHeap.Sift.{SiftsUp, SiftsDown, IsGreaterChild};
-ghost use Rattle.search.specs.Queues.{waitings, places, queue, sooner, Queued, Least, Lowered, Told, Placed, Fresh};
+ghost use Rattle.search.specs.Queues.{waitings, places, queue, sooner, Queued, Least, Lowered, turned_order, Placed, Fresh};
 
 use crate::entry::{Entry, Waiting};
 use std::cmp::Ordering;
@@ -11,7 +11,7 @@ use tariff::Tariff;
 
 // Does one row come before the other: a smaller charge, or the same and a lower number?
 fn is_sooner<T: Tariff>(tariff: &T, a: Waiting<T::Charge>, b: Waiting<T::Charge>) -> bool
-    ensures { result ≡ sooner (charges tariff.now).le a b }
+    ensures { result ≡ sooner (T.charges tariff.now).le a b }
 {
     match tariff.compare(a.charge, b.charge) {
         Ordering::Less => true,
@@ -79,7 +79,7 @@ fn exchange<C: Copy>(table: &mut [Entry<C>], count: usize, first: usize, second:
 fn rise<T: Tariff>(tariff: &T, table: &mut [Entry<T::Charge>], count: usize, start: usize)
     requires { (start < count) × (count ≤ length table.old) × (length table.old ≤ 65536) }
     ensures shuffled { IsPermutation (queue count table.old) (queue count table.new) }
-    ensures rises { SiftsUp (Told (charges tariff.now).le) (queue count table.old) start (queue count table.new) }
+    ensures rises { SiftsUp (turned_order (T.charges tariff.now).le) (queue count table.old) start (queue count table.new) }
     ensures noted { Placed count table.old → Placed count table.new }
 {
     let mut place = start;
@@ -104,7 +104,7 @@ fn sooner_below<T: Tariff>(
 ) -> usize
     requires { (2 * place + 1 < count) × (count ≤ length table.now) }
     ensures bound { (result < count) × (place * 2 + 1 ≤ result) × (result ≤ place * 2 + 2) }
-    ensures best { IsGreaterChild (Told (charges tariff.now).le) (queue count table.now) place result count }
+    ensures best { IsGreaterChild (turned_order (T.charges tariff.now).le) (queue count table.now) place result count }
 {
     let left = 2 * place + 1;
     if count <= left + 1 {
@@ -122,7 +122,7 @@ fn sooner_below<T: Tariff>(
 fn sink<T: Tariff>(tariff: &T, table: &mut [Entry<T::Charge>], count: usize)
     requires { (count ≤ length table.old) × (length table.old ≤ 65536) }
     ensures shuffled { IsPermutation (queue count table.old) (queue count table.new) }
-    ensures sinks { SiftsDown (Told (charges tariff.now).le) (queue count table.old) 0 count (queue count table.new) }
+    ensures sinks { SiftsDown (turned_order (T.charges tariff.now).le) (queue count table.old) 0 count (queue count table.new) }
     ensures noted { Placed count table.old → Placed count table.new }
 {
     let mut place = 0;
@@ -147,7 +147,7 @@ pub(crate) fn push<T: Tariff>(
 )
     requires { (count < length table.old) × (length table.old ≤ 65536) }
     ensures held { IsPermutation (waiting ∷ queue count table.old) (queue (count + 1) table.new) }
-    ensures queued { Queued (charges tariff.now).le (queue count table.old) → Queued (charges tariff.now).le (queue (count + 1) table.new) }
+    ensures queued { Queued (T.charges tariff.now).le (queue count table.old) → Queued (T.charges tariff.now).le (queue (count + 1) table.new) }
     ensures noted { Fresh waiting (queue count table.old) → waiting.row < length table.old → Placed count table.old → Placed (count + 1) table.new }
 {
     put(table, count, waiting);
@@ -163,8 +163,8 @@ pub(crate) fn pop<T: Tariff>(
 ) -> Waiting<T::Charge>
     requires { (0 < count) × (count ≤ length table.old) × (length table.old ≤ 65536) }
     ensures held { IsPermutation (queue count table.old) (result ∷ queue (count - 1) table.new) }
-    ensures queued { Queued (charges tariff.now).le (queue count table.old) → Queued (charges tariff.now).le (queue (count - 1) table.new) }
-    ensures least { Queued (charges tariff.now).le (queue count table.old) → Least (charges tariff.now).le result (queue count table.old) }
+    ensures queued { Queued (T.charges tariff.now).le (queue count table.old) → Queued (T.charges tariff.now).le (queue (count - 1) table.new) }
+    ensures least { Queued (T.charges tariff.now).le (queue count table.old) → Least (T.charges tariff.now).le result (queue count table.old) }
     ensures noted { Placed count table.old → Placed (count - 1) table.new }
 {
     let first = waiting_at(table, 0);
@@ -184,8 +184,8 @@ pub(crate) fn lower<T: Tariff>(
     waiting: Waiting<T::Charge>,
 ) -> bool
     requires { (count ≤ length table.old) × (length table.old ≤ 65536) }
-    ensures held { Placed count table.old → Lowered (charges tariff.now).le waiting (queue count table.old) (queue count table.new) result }
-    ensures queued { Queued (charges tariff.now).le (queue count table.old) → Queued (charges tariff.now).le (queue count table.new) }
+    ensures held { Placed count table.old → Lowered (T.charges tariff.now).le waiting (queue count table.old) (queue count table.new) result }
+    ensures queued { Queued (T.charges tariff.now).le (queue count table.old) → Queued (T.charges tariff.now).le (queue count table.new) }
     ensures noted { Placed count table.old → Placed count table.new }
 {
     let place = place_of(table, waiting.row);

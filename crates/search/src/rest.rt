@@ -38,10 +38,10 @@ pub fn begin<T: Tariff>(
     start: Setting,
     bound: T::Charge,
 ) -> Result<Search<T::Charge>, Refused<Rest>>
-    ensures promised { (b : Bench) (calls : List (Call T.Charge)) (actions : ℕ) → Lawful b → LeftRest b (charges tariff.now) calls rest → Began b (charges tariff.now) calls (beginning start bound (lengths actions (length tables.entry.rows.now) (length tables.entry.queue.now) (length tables.entry.plan.now) (length tables.entry.marks.now) (length tables.entry.work.now))) result tables.exit.0.now tables.exit.1.0.now tables.exit.1.1.1.0.now tables.exit.1.1.1.1.0.now }
+    ensures promised { (b : Bench) (calls : List (Call T.Charge)) (actions : ℕ) → Lawful b → LeftRest b (T.charges tariff.now) calls rest → Began b (T.charges tariff.now) calls (beginning start bound (lengths actions (length tables.entry.rows.now) (length tables.entry.queue.now) (length tables.entry.plan.now) (length tables.entry.marks.now) (length tables.entry.work.now))) result tables.exit.0.now tables.exit.1.0.now tables.exit.1.1.1.0.now tables.exit.1.1.1.1.0.now }
     ensures refused { (b : Bench) (actions : ℕ) → OfTask rest.task b → refusal_of result ≡ begin_fault b start (lengths actions (length tables.entry.rows.now) (length tables.entry.queue.now) (length tables.entry.plan.now) (length tables.entry.marks.now) (length tables.entry.work.now)) }
     ensures stays { GivenBack rest ((tables.exit.0.now ≡ tables.entry.rows.now) × (tables.exit.1.0.now ≡ tables.entry.queue.now) × (tables.exit.1.1.0.now ≡ tables.entry.plan.now) × (tables.exit.1.1.1.0.now ≡ tables.entry.marks.now) × (tables.exit.1.1.1.1.0.now ≡ tables.entry.work.now)) result }
-    ensures laid { IfDone (λ s. Laid rest (charges tariff.now).zero start bound s tables.entry.rows.now tables.exit.0.now tables.entry.plan.now tables.exit.1.1.0.now tables.entry.marks.now tables.exit.1.1.1.0.now tables.entry.work.now tables.exit.1.1.1.1.0.now) result }
+    ensures laid { IfDone (λ s. Laid rest (T.charges tariff.now).zero start bound s tables.entry.rows.now tables.exit.0.now tables.entry.plan.now tables.exit.1.1.0.now tables.entry.marks.now tables.exit.1.1.1.0.now tables.entry.work.now tables.exit.1.1.1.1.0.now) result }
 {
     let Tables {
         rows,

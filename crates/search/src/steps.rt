@@ -42,7 +42,7 @@ fn find_used<C: Copy>(rows: &[Row<C>], used: usize, setting: Setting) -> usize
 
 // Is the first charge smaller?
 fn is_cheaper<T: Tariff>(tariff: &T, a: T::Charge, b: T::Charge) -> bool
-    ensures { result ≡ not ((charges tariff.now).le b a) }
+    ensures { result ≡ not ((T.charges tariff.now).le b a) }
 {
     match tariff.compare(a, b) {
         Ordering::Less => true,
@@ -61,9 +61,9 @@ fn lower_row<T: Tariff>(
     new: Row<T::Charge>,
 )
     requires { (at < sizes.used) × (at < length rows.old) × (sizes.used ≤ length rows.old) × (sizes.used ≤ 65535) × (sizes.waiting ≤ length queue.old) × (length queue.old ≤ 65536) }
-    ensures rows { take sizes.used rows.new ≡ settled (charges tariff.now).zero (charges tariff.now).le (take sizes.used rows.old) new at }
+    ensures rows { take sizes.used rows.new ≡ settled (T.charges tariff.now).zero (T.charges tariff.now).le (take sizes.used rows.old) new at }
     ensures rest { drop sizes.used rows.new ≡ drop sizes.used rows.old }
-    ensures lined { Lined (charges tariff.now).le (take sizes.used rows.old) sizes.waiting queue.old → Lined (charges tariff.now).le (take sizes.used rows.new) sizes.waiting queue.new }
+    ensures lined { Lined (T.charges tariff.now).le (take sizes.used rows.old) sizes.waiting queue.old → Lined (T.charges tariff.now).le (take sizes.used rows.new) sizes.waiting queue.new }
 {
     let held = rows[at];
     if !is_cheaper(tariff, new.charge, held.charge) {
@@ -95,7 +95,7 @@ fn push_row<T: Tariff>(
     requires { (sizes.used < length rows.old) × (sizes.used < length queue.old) × (sizes.waiting < length queue.old) × (length queue.old ≤ 65536) }
     ensures rows { take (sizes.used + 1) rows.new ≡ take sizes.used rows.old ++ new ∷ [] }
     ensures rest { drop (sizes.used + 1) rows.new ≡ drop (sizes.used + 1) rows.old }
-    ensures lined { new.closed ≡ false → Lined (charges tariff.now).le (take sizes.used rows.old) sizes.waiting queue.old → Lined (charges tariff.now).le (take (sizes.used + 1) rows.new) (sizes.waiting + 1) queue.new }
+    ensures lined { new.closed ≡ false → Lined (T.charges tariff.now).le (take sizes.used rows.old) sizes.waiting queue.old → Lined (T.charges tariff.now).le (take (sizes.used + 1) rows.new) (sizes.waiting + 1) queue.new }
 {
     rows[sizes.used] = new;
     let waiting = Waiting {
@@ -113,9 +113,9 @@ fn place_start<T: Tariff>(
     start: Setting,
 )
     requires { (0 < length rows.old) × (0 < length queue.old) × (length queue.old ≤ 65536) }
-    ensures rows { (b : Bench) (limits : Limits T.Charge) → take 1 rows.new ≡ first_rows (problem b (charges tariff.now) (posed start limits)) }
+    ensures rows { (b : Bench) (limits : Limits T.Charge) → take 1 rows.new ≡ first_rows (problem b (T.charges tariff.now) (posed start limits)) }
     ensures rest { drop 1 rows.new ≡ drop 1 rows.old }
-    ensures lined { Lined (charges tariff.now).le (take 1 rows.new) 1 queue.new }
+    ensures lined { Lined (T.charges tariff.now).le (take 1 rows.new) 1 queue.new }
 {
     let charge = tariff.zero();
     let first = Row {
@@ -141,9 +141,9 @@ pub(crate) fn begin_rows<T: Tariff>(
     start: Setting,
 )
     requires { (0 < capacity) × (capacity ≤ 65535) × (capacity ≤ length rows.old) × (capacity ≤ length queue.old) }
-    ensures rows { (b : Bench) (limits : Limits T.Charge) → take 1 rows.new ≡ first_rows (problem b (charges tariff.now) (posed start limits)) }
+    ensures rows { (b : Bench) (limits : Limits T.Charge) → take 1 rows.new ≡ first_rows (problem b (T.charges tariff.now) (posed start limits)) }
     ensures rest { drop 1 rows.new ≡ drop 1 rows.old }
-    ensures lined { Lined (charges tariff.now).le (take 1 rows.new) 1 queue.new }
+    ensures lined { Lined (T.charges tariff.now).le (take 1 rows.new) 1 queue.new }
 {
     place_start(tariff, rows, &mut queue[0..capacity], start);
 }
@@ -159,10 +159,10 @@ fn place_row<T: Tariff>(
     new: Row<T::Charge>,
 ) -> Filled
     requires { Roomy capacity sizes (length rows.old) (length queue.old) }
-    ensures rows { swept result rows.new ≡ place (charges tariff.now).zero (charges tariff.now).le capacity (take sizes.used rows.old) new }
+    ensures rows { swept result rows.new ≡ place (T.charges tariff.now).zero (T.charges tariff.now).le capacity (take sizes.used rows.old) new }
     ensures grew { Grew capacity 0 sizes result.sizes }
     ensures rest { drop result.sizes.used rows.new ≡ drop result.sizes.used rows.old }
-    ensures lined { new.closed ≡ false → Lined (charges tariff.now).le (take sizes.used rows.old) sizes.waiting queue.old → Lined (charges tariff.now).le (take result.sizes.used rows.new) result.sizes.waiting queue.new }
+    ensures lined { new.closed ≡ false → Lined (T.charges tariff.now).le (take sizes.used rows.old) sizes.waiting queue.old → Lined (T.charges tariff.now).le (take result.sizes.used rows.new) result.sizes.waiting queue.new }
 {
     let setting = new.setting;
     let at = find_used(rows, sizes.used, setting);
@@ -193,10 +193,10 @@ fn relax<T: Tariff>(
     source: Source<T::Charge>,
 ) -> Filled
     requires { Roomy limits.capacity sizes (length rows.old) (length queue.old) }
-    ensures rows { (b : Bench) (start : List ℕ) → act b number ≡ act_of action.now → SumOfFew (charges tariff.now) (and_act (charges tariff.now) source.charge (act_of action.now)) → swept result rows.new ≡ relaxed (problem b (charges tariff.now) (posed start limits)) source.row source.setting source.charge (take sizes.used rows.old) number }
+    ensures rows { (b : Bench) (start : List ℕ) → act b number ≡ act_of action.now → SumOfFew (T.charges tariff.now) (and_act (T.charges tariff.now) source.charge (act_of action.now)) → swept result rows.new ≡ relaxed (problem b (T.charges tariff.now) (posed start limits)) source.row source.setting source.charge (take sizes.used rows.old) number }
     ensures grew { Grew limits.capacity 0 sizes result.sizes }
     ensures rest { drop result.sizes.used rows.new ≡ drop result.sizes.used rows.old }
-    ensures lined { Lined (charges tariff.now).le (take sizes.used rows.old) sizes.waiting queue.old → Lined (charges tariff.now).le (take result.sizes.used rows.new) result.sizes.waiting queue.new }
+    ensures lined { Lined (T.charges tariff.now).le (take sizes.used rows.old) sizes.waiting queue.old → Lined (T.charges tariff.now).le (take result.sizes.used rows.new) result.sizes.waiting queue.new }
 {
     match tariff.add(source.charge, action, limits.bound) {
         Added::Within(charge) => {
@@ -236,10 +236,10 @@ fn try_action<T: Tariff>(
 ) -> Filled
     requires numbered { (number < task.now.actions) × (task.now.actions ≤ length actions.now) × (task.now.actions ≤ length marks.now) × (number < length actions.now) × (number < length marks.now) }
     requires roomy { Roomy limits.capacity sizes (length rows.old) (length queue.old) }
-    ensures rows { (start : List ℕ) → Addable (problem (bench_of task.now actions.now) (charges tariff.now) (posed start limits)) source.charge → swept result rows.new ≡ onward (problem (bench_of task.now actions.now) (charges tariff.now) (posed start limits)) (byte_marked marks.now) source.row source.setting source.charge (on (take sizes.used rows.old)) number }
+    ensures rows { (start : List ℕ) → Addable (problem (bench_of task.now actions.now) (T.charges tariff.now) (posed start limits)) source.charge → swept result rows.new ≡ onward (problem (bench_of task.now actions.now) (T.charges tariff.now) (posed start limits)) (byte_marked marks.now) source.row source.setting source.charge (on (take sizes.used rows.old)) number }
     ensures grew { Grew limits.capacity 0 sizes result.sizes }
     ensures rest { drop result.sizes.used rows.new ≡ drop result.sizes.used rows.old }
-    ensures lined { Lined (charges tariff.now).le (take sizes.used rows.old) sizes.waiting queue.old → Lined (charges tariff.now).le (take result.sizes.used rows.new) result.sizes.waiting queue.new }
+    ensures lined { Lined (T.charges tariff.now).le (take sizes.used rows.old) sizes.waiting queue.old → Lined (T.charges tariff.now).le (take result.sizes.used rows.new) result.sizes.waiting queue.new }
 {
     let action = &actions[number];
     if !is_offered(marks[number], action, source.setting) {
@@ -271,10 +271,10 @@ fn sweep_actions<T: Tariff>(
 ) -> Filled
     requires numbered { (task.now.actions ≤ length actions.now) × (task.now.actions ≤ length marks.now) }
     requires roomy { Roomy limits.capacity sizes (length rows.old) (length queue.old) }
-    ensures rows { (start : List ℕ) → Addable (problem (bench_of task.now actions.now) (charges tariff.now) (posed start limits)) source.charge → swept result rows.new ≡ sweep (problem (bench_of task.now actions.now) (charges tariff.now) (posed start limits)) (byte_marked marks.now) source.row source.setting source.charge (take sizes.used rows.old) task.now.actions }
+    ensures rows { (start : List ℕ) → Addable (problem (bench_of task.now actions.now) (T.charges tariff.now) (posed start limits)) source.charge → swept result rows.new ≡ sweep (problem (bench_of task.now actions.now) (T.charges tariff.now) (posed start limits)) (byte_marked marks.now) source.row source.setting source.charge (take sizes.used rows.old) task.now.actions }
     ensures grew { Grew limits.capacity 0 sizes result.sizes }
     ensures rest { drop result.sizes.used rows.new ≡ drop result.sizes.used rows.old }
-    ensures lined { Lined (charges tariff.now).le (take sizes.used rows.old) sizes.waiting queue.old → Lined (charges tariff.now).le (take result.sizes.used rows.new) result.sizes.waiting queue.new }
+    ensures lined { Lined (T.charges tariff.now).le (take sizes.used rows.old) sizes.waiting queue.old → Lined (T.charges tariff.now).le (take result.sizes.used rows.new) result.sizes.waiting queue.new }
 {
     for number in 0..task.actions {
         let filled = try_action(
@@ -317,7 +317,7 @@ fn mark_all<R: Rule>(
     work: &mut [u8],
 )
     requires { Served task.now.actions (length actions.now) (length marks.old) (length work.old) }
-    ensures marked { Lawful (bench_of task.now actions.now) → SettingOf (bench_of task.now actions.now) setting → (k : ℕ) → k < task.now.actions → byte_marked marks.new k ≡ (marking rule.now).marks (bench_of task.now actions.now) setting k }
+    ensures marked { Lawful (bench_of task.now actions.now) → SettingOf (bench_of task.now actions.now) setting → (k : ℕ) → k < task.now.actions → byte_marked marks.new k ≡ (R.marking rule.now).marks (bench_of task.now actions.now) setting k }
     ensures clear { Zeros (take 4096 work.new) }
     ensures rest { (drop task.now.actions marks.new ≡ drop task.now.actions marks.old) × (drop 4096 work.new ≡ drop 4096 work.old) }
 {
@@ -375,10 +375,10 @@ fn expand_row<T: Tariff, R: Rule>(
     requires served { Served task.now.actions (length actions.now) (length marks.old) (length work.old) }
     requires roomy { Roomy limits.capacity sizes (length rows.old) (length queue.old) }
     requires low { (0 < sizes.waiting) × (source.row < sizes.used) × (source.row < length rows.old) }
-    ensures rows { (start : List ℕ) → Lawful (bench_of task.now actions.now) → SettingOf (bench_of task.now actions.now) source.setting → Addable (problem (bench_of task.now actions.now) (charges tariff.now) (posed start limits)) source.charge → ((d : Row T.Charge) → ((get_or rows.old source.row d).setting ≡ source.setting) × ((get_or rows.old source.row d).charge ≡ source.charge)) → swept result rows.new ≡ expand (problem (bench_of task.now actions.now) (charges tariff.now) (posed start limits)) ((marking rule.now).marks (bench_of task.now actions.now)) (take sizes.used rows.old) source.row }
+    ensures rows { (start : List ℕ) → Lawful (bench_of task.now actions.now) → SettingOf (bench_of task.now actions.now) source.setting → Addable (problem (bench_of task.now actions.now) (T.charges tariff.now) (posed start limits)) source.charge → ((d : Row T.Charge) → ((get_or rows.old source.row d).setting ≡ source.setting) × ((get_or rows.old source.row d).charge ≡ source.charge)) → swept result rows.new ≡ expand (problem (bench_of task.now actions.now) (T.charges tariff.now) (posed start limits)) ((R.marking rule.now).marks (bench_of task.now actions.now)) (take sizes.used rows.old) source.row }
     ensures grew { Grew limits.capacity 1 sizes result.sizes }
     ensures rest { drop result.sizes.used rows.new ≡ drop result.sizes.used rows.old }
-    ensures lined { Lined (charges tariff.now).le (take sizes.used rows.old) sizes.waiting queue.old → least (charges tariff.now).zero (charges tariff.now).le (take sizes.used rows.old) ≡ Some source.row → Lined (charges tariff.now).le (take result.sizes.used rows.new) result.sizes.waiting queue.new }
+    ensures lined { Lined (T.charges tariff.now).le (take sizes.used rows.old) sizes.waiting queue.old → least (T.charges tariff.now).zero (T.charges tariff.now).le (take sizes.used rows.old) ≡ Some source.row → Lined (T.charges tariff.now).le (take result.sizes.used rows.new) result.sizes.waiting queue.new }
     ensures clear { Zeros (take 4096 work.new) }
     ensures kept { (drop task.now.actions marks.new ≡ drop task.now.actions marks.old) × (drop 4096 work.new ≡ drop 4096 work.old) }
 {
@@ -415,9 +415,9 @@ fn run_steps<T: Tariff, R: Rule>(
     requires roomy { Roomy limits.capacity sizes (length rows.old) (length queue.old) }
     requires counted { expanded + sizes.waiting ≡ sizes.used }
     ensures tallied { Tallied limits.capacity sizes result }
-    ensures ran { (start : List ℕ) → Lawful (bench_of task.now actions.now) → Sound (bench_of task.now actions.now) (charges tariff.now) (posed start limits) ((marking rule.now).marks (bench_of task.now actions.now)) (take sizes.used rows.old) expanded → Lined (charges tariff.now).le (take sizes.used rows.old) sizes.waiting queue.old → advance (problem (bench_of task.now actions.now) (charges tariff.now) (posed start limits)) ((marking rule.now).marks (bench_of task.now actions.now)) steps (take sizes.used rows.old) expanded ≡ state_of result rows.new }
+    ensures ran { (start : List ℕ) → Lawful (bench_of task.now actions.now) → Sound (bench_of task.now actions.now) (T.charges tariff.now) (posed start limits) ((R.marking rule.now).marks (bench_of task.now actions.now)) (take sizes.used rows.old) expanded → Lined (T.charges tariff.now).le (take sizes.used rows.old) sizes.waiting queue.old → advance (problem (bench_of task.now actions.now) (T.charges tariff.now) (posed start limits)) ((R.marking rule.now).marks (bench_of task.now actions.now)) steps (take sizes.used rows.old) expanded ≡ state_of result rows.new }
     ensures rest { drop result.sizes.used rows.new ≡ drop result.sizes.used rows.old }
-    ensures lined { Lined (charges tariff.now).le (take sizes.used rows.old) sizes.waiting queue.old → Lined (charges tariff.now).le (take result.sizes.used rows.new) result.sizes.waiting queue.new }
+    ensures lined { Lined (T.charges tariff.now).le (take sizes.used rows.old) sizes.waiting queue.old → Lined (T.charges tariff.now).le (take result.sizes.used rows.new) result.sizes.waiting queue.new }
     ensures clear { Zeros (take 4096 work.old) → Zeros (take 4096 work.new) }
     ensures kept { (drop task.now.actions marks.new ≡ drop task.now.actions marks.old) × (drop 4096 work.new ≡ drop 4096 work.old) }
 {
@@ -480,9 +480,9 @@ pub(crate) fn run<T: Tariff, R: Rule>(
     requires served { Served task.now.actions (length actions.now) (length marks.old) (length work.old) }
     requires sized { (sizes.used ≤ limits.capacity) × (limits.capacity ≤ 65535) × (limits.capacity ≤ length rows.old) × (limits.capacity ≤ length queue.old) × (expanded + sizes.waiting ≡ sizes.used) }
     ensures tallied { Tallied limits.capacity sizes result }
-    ensures ran { (start : List ℕ) → Lawful (bench_of task.now actions.now) → Sound (bench_of task.now actions.now) (charges tariff.now) (posed start limits) ((marking rule.now).marks (bench_of task.now actions.now)) (take sizes.used rows.old) expanded → Lined (charges tariff.now).le (take sizes.used rows.old) sizes.waiting queue.old → advance (problem (bench_of task.now actions.now) (charges tariff.now) (posed start limits)) ((marking rule.now).marks (bench_of task.now actions.now)) steps (take sizes.used rows.old) expanded ≡ state_of result rows.new }
+    ensures ran { (start : List ℕ) → Lawful (bench_of task.now actions.now) → Sound (bench_of task.now actions.now) (T.charges tariff.now) (posed start limits) ((R.marking rule.now).marks (bench_of task.now actions.now)) (take sizes.used rows.old) expanded → Lined (T.charges tariff.now).le (take sizes.used rows.old) sizes.waiting queue.old → advance (problem (bench_of task.now actions.now) (T.charges tariff.now) (posed start limits)) ((R.marking rule.now).marks (bench_of task.now actions.now)) steps (take sizes.used rows.old) expanded ≡ state_of result rows.new }
     ensures rest { drop result.sizes.used rows.new ≡ drop result.sizes.used rows.old }
-    ensures lined { Lined (charges tariff.now).le (take sizes.used rows.old) sizes.waiting queue.old → Lined (charges tariff.now).le (take result.sizes.used rows.new) result.sizes.waiting queue.new }
+    ensures lined { Lined (T.charges tariff.now).le (take sizes.used rows.old) sizes.waiting queue.old → Lined (T.charges tariff.now).le (take result.sizes.used rows.new) result.sizes.waiting queue.new }
     ensures marks { Zeros (take task.now.actions marks.new) }
     ensures work { Zeros (take 4096 work.old) → Zeros (take 4096 work.new) }
     ensures kept { (drop task.now.actions marks.new ≡ drop task.now.actions marks.old) × (drop 4096 work.new ≡ drop 4096 work.old) }

@@ -1,7 +1,7 @@
 -- A tariff with rates of its own: so much for a tenth, so much for a press.
 use Rattle.std.specs.Prelude.{◌≡◌, ℕ, ◌+◌, ◌*◌, ◌≤◌, true, List, [], ◌∷◌, length, nat_le, refl}
 use Rattle.std.proofs.Common.{sym, ap, ◌∙◌, add_assoc, add_comm, zero-add, mul-suc, mul-le-mul_left, arith}
-use Rattle.std.specs.List.{AllByRecursion as All}
+use Rattle.std.specs.List.{AllByRecursion}
 use Rattle.std.proofs.lemmas.Bool.{le-leb}
 use Rattle.task.specs.Benches.{Act}
 use Rattle.tariff.specs.Charges.{Charges, Reached, Billable, summed}
@@ -21,7 +21,7 @@ module _ (tenth press : ℕ) where
       let p : press * a.presses ≤ press * 1000 = mul-le-mul_left press h.1 in
       omega arith
 
-  pub rate_few : (acts : List Act) → All Billable acts → summed 0 ◌+◌ rate acts ≤ dearest * length acts
+  pub rate_few : (acts : List Act) → AllByRecursion Billable acts → summed 0 ◌+◌ rate acts ≤ dearest * length acts
   rate_few [] all = omega arith
   rate_few (a ∷ more) all =
       let one = rate_most a all.0 in

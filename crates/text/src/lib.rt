@@ -1,5 +1,6 @@
 // Lines, fields and decimal numbers in a text of bytes.
 #![tactic(auto)]
+
 ghost use Rattle.std.specs.Prelude.{◌≡◌, ◌^◌, ◌<◌, min, ◌&&◌, length, IfSome, nat_le};
 ghost use Rattle.text.specs.declared.Unread.TheVariants.{Memory};
 ghost use Rattle.text.specs.Fields.{before, after, is_digit, decimal, numbers_on};

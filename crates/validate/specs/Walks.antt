@@ -1,6 +1,6 @@
 -- What is said of a walk: a list of actions, done one after another from a start setting.
 use Rattle.std.specs.Prelude.{◌≡◌, ℕ, ◌+◌, ◌≤◌, min, Bool, cond, List, [], ◌∷◌, length, replicate, Some, None, Ok, Err, Option, Result, ◌==◌, nat_lt, slice_set}
-use Rattle.std.specs.List.{AllByRecursion as All}
+use Rattle.std.specs.List.{AllByRecursion}
 use Rattle.task.specs.declared.data.Atom.{Atom}
 use Rattle.task.specs.declared.refusal.Fault.TheVariants.{StartOutside}
 use Rattle.task.specs.declared.refusal.Refusal.{Refusal}
@@ -118,7 +118,7 @@ said book input = by_book (parse_into 1024 book) input
 -- the walk's charges are those of the actions that it has done, at most 65,536
 pub record Counted (w : Standing) : Type 0 where
   pub acts : List Act
-  pub billable : All Billable acts
+  pub billable : AllByRecursion Billable acts
   pub long : length acts + 1 ≡ w.step
   pub low : w.step ≤ 65537
   pub time_is : w.time ≡ sum time acts

@@ -10,7 +10,7 @@ use Rattle.book.proofs.read.Goals as goal
 
 pub returns-in_err-task : goal.returns-in_err-task
 returns-in_err-task c =
-    let p = err_from_is_err_and c.from-residual.result c.from-residual.ensures.1 in
+    let p = err_from_is_err_and c.from_residual.result c.from_residual.ensures.1 in
     record {
       value = rw (p.1, p.2) (not_read c.args.actions.now (length c.args.actions.now) c.args.book.now c.in_err-task.field-0.0 c.in_err-task.ensures);
       table = rw p.1 refl;
@@ -37,5 +37,5 @@ returns c =
       table = rest_kept c.args.book.now c.args.actions.now c.fill.new.actions c.in_ok-task.task c.in_ok-task.ensures c.fill.ensures;
       room = search rules;
       lawful = subst Lawful (sym h.2.bench) (lawful c.args.book.now h.0 h.1);
-      printed = ap print h.2.bench ∙ one_book c.args.book.now h.0 (All-from_get_or (λ x. x < 256) c.args.book.now 0 (λ i _. (c.type-inv.book i).fits)) h.1;
+      printed = ap print h.2.bench ∙ one_book c.args.book.now h.0 (All-from_get_or (λ x. x < 256) c.args.book.now 0 (λ i _. (c.type_inv.book i).fits)) h.1;
     }

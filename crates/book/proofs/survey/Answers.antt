@@ -15,7 +15,7 @@ loop-left-init c =
 
 pub returns-in_err-after : goal.returns-in_err-after
 returns-in_err-after c =
-    let p = err_from_is_err_and c.from-residual.result c.from-residual.ensures.1 in
+    let p = err_from_is_err_and c.from_residual.result c.from_residual.ensures.1 in
     let some : 0 < length c.loop-left.left.now = search rules in
     rw (p.1, p.2) (fails c.args.book.now c.loop-left.left.now c.loop-left.at c.loop-left.seen c.in_err-after.field-0.0 c.loop-left.invariant some (c.in_err-after.ensures.value c.loop-left.invariant.bench c.loop-left.invariant.outline))
 

@@ -1,7 +1,7 @@
-use Rattle.std.proofs.Common.{◌≡◌, ◌+◌, ◌<◌, ◌≤◌, true, cond, ltb, [], ◌∷◌, ◌++◌, length, Err, vec_items, vec_len, sym, ap, ◌∙◌, subst, arith}
+use Rattle.std.proofs.Common.{◌+◌, length, Err, vec_items, sym, ap, ◌∙◌, arith}
 use Rattle.std.proofs.lemmas.Result.{err_from_is_err_and}
 use Rattle.std.proofs.lemmas.Bool.{cond-true}
-use Rattle.text.specs.Fields.{before, after, pieces, decimal, read_fields, numbers_on}
+use Rattle.text.specs.Fields.{before, decimal}
 use Rattle.text.proofs.Pieces.{lengths, falls, no_number, one_number, number_long}
 use Rattle.text.proofs.numbers.Goals as goal
 
@@ -11,7 +11,7 @@ returns-in_default c =
     sym none ∙ ap (λ n. Err (n + 1)) (sym (c.len.ensures ∙ c.loop-more.sofar.ok.0))
 
 pub returns-in_err-push : goal.returns-in_err-push
-returns-in_err-push c = let p = err_from_is_err_and c.from-residual.result c.from-residual.ensures.1 in rw (p.1, p.2) tt
+returns-in_err-push c = let p = err_from_is_err_and c.from_residual.result c.from_residual.ensures.1 in rw (p.1, p.2) tt
 
 pub loop-more-smaller : goal.loop-more-smaller
 loop-more-smaller c =

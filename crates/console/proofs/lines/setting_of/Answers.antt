@@ -1,4 +1,4 @@
-use Rattle.std.proofs.Common.{◌≡◌, sym, ap, ◌∙◌, length-set}
+use Rattle.std.proofs.Common.{ap, ◌∙◌, length-set}
 use Rattle.text.proofs.Pieces.{pieces_first}
 use Rattle.console.specs.Left.{remaining}
 use Rattle.console.proofs.Values.{too_few, too_many, not_small, one_value}
@@ -9,7 +9,7 @@ returns-in_default c = too_few c.args.count c.loop-v.v c.loop-v.setting (remaini
 
 pub returns-in_err-setting : goal.returns-in_err-setting
 returns-in_err-setting c =
-    c.from-residual.ensures ∙ not_small c.args.count c.loop-v.v c.loop-v.setting (remaining c.loop-v.left) _ c.loop-v.invariant.0 c.loop-v-test.true c.split_field.result.0.now (remaining c.split_field.result.1) (ap remaining c.in-Some.is ∙ c.split_field.ensures) c.in_err-setting.ensures
+    c.from_residual.ensures ∙ not_small c.args.count c.loop-v.v c.loop-v.setting (remaining c.loop-v.left) _ c.loop-v.invariant.0 c.loop-v-test.true c.split_field.result.0.now (remaining c.split_field.result.1) (ap remaining c.in-Some.is ∙ c.split_field.ensures) c.in_err-setting.ensures
 
 pub loop-v-preserved : goal.loop-v-preserved
 loop-v-preserved c = (

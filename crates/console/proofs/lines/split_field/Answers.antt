@@ -1,6 +1,6 @@
-use Rattle.std.proofs.Common.{◌≡◌, ℕ, ◌<◌, Bool, cond, List, [], ◌∷◌, length, sym, ap, ◌∙◌, arith}
+use Rattle.std.proofs.Common.{◌≡◌, ℕ, List, [], ◌∷◌, length, sym, ap, ◌∙◌, arith}
 use Rattle.std.proofs.lemmas.Bool.{cond-true, cond-false, lt-ltb, le-ltb}
-use Rattle.text.specs.Fields.{before, after, pieces}
+use Rattle.text.specs.Fields.{before, pieces}
 use Rattle.text.proofs.Pieces.{pieces_first}
 use Rattle.console.proofs.lines.split_field.Goals as goal
 

@@ -1,4 +1,4 @@
-use Rattle.std.proofs.Common.{◌≡◌, ℕ, None, Option, sym, ap, ◌∙◌}
+use Rattle.std.proofs.Common.{ℕ, None, Option, sym, ap, ◌∙◌}
 use Rattle.std.specs.Option.{option_or}
 use Rattle.task.specs.declared.refusal.Refusal.{Refusal}
 use Rattle.search.specs.Session.{short}

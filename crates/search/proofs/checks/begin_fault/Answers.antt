@@ -1,5 +1,4 @@
-use Rattle.std.proofs.Common.{◌≡◌, ℕ, true, cond, ◌&&◌, eqb, ltb, leb, List, length, take, Some, None, Option, sym, ap, ◌∙◌, arith, rules}
-use Rattle.std.specs.Option.{option_or}
+use Rattle.std.proofs.Common.{◌≡◌, ℕ, ◌&&◌, eqb, ltb, leb, List, length, Some, Option, sym, ap, ◌∙◌, arith, rules}
 use Rattle.std.proofs.lemmas.Bool.{and_from, lt-ltb, le-leb, eq-eqb, cond-true}
 use Rattle.task.specs.declared.refusal.Fault.TheVariants.{RowCount}
 use Rattle.task.specs.declared.refusal.Refusal.{Refusal}

@@ -1,4 +1,4 @@
-use Rattle.std.proofs.Common.{◌≡◌, ℕ, Option, sym, ap, ◌∙◌}
+use Rattle.std.proofs.Common.{ℕ, Option, sym, ◌∙◌}
 use Rattle.task.specs.declared.refusal.Refusal.{Refusal}
 use Rattle.search.specs.Session.{short}
 use Rattle.search.proofs.Faults.{first_check, next_check}

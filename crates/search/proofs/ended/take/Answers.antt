@@ -1,5 +1,5 @@
-use Rattle.std.proofs.Common.{◌≡◌, length, Some, None, sym, refl, ap, ◌∙◌, arith, rules}
-use Rattle.search.specs.Session.{taking, do_next}
+use Rattle.std.proofs.Common.{length, Some, sym, refl, ap, ◌∙◌, arith}
+use Rattle.search.specs.Session.{do_next}
 use Rattle.search.specs.Left.{lengths, old_quest, end_of}
 use Rattle.search.proofs.Promises.{promised}
 use Rattle.search.proofs.Sessions.{can_take, take_by}

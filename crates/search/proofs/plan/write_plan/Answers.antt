@@ -1,4 +1,4 @@
-use Rattle.std.proofs.Common.{◌≡◌, ◌+◌, ◌-◌, Bool, reverse, length, take, drop, sym, ap, ◌∙◌, arith, length-take, take_at, drop-set-lt}
+use Rattle.std.proofs.Common.{◌≡◌, ◌+◌, ◌-◌, reverse, length, take, drop, sym, ap, ◌∙◌, arith, length-take, take_at, drop-set-lt}
 use borrow.Rule.Slice.PartMut.{post_of}
 use Rattle.std.proofs.lemmas.List.{drop-drop}
 use Rattle.std.proofs.lemmas.Slice.{drop-put_mid}

@@ -1,4 +1,4 @@
-use Rattle.std.proofs.Common.{◌≤◌, length, sym, refl, arith}
+use Rattle.std.proofs.Common.{◌≤◌, length, sym, refl}
 use Rattle.std.proofs.lemmas.List.{map-set, set_past, length-map}
 use Rattle.search.specs.Queues.{places}
 use Rattle.search.proofs.Entries.{part_kept}

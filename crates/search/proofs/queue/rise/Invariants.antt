@@ -1,7 +1,8 @@
 use Rattle.std.proofs.Common.{◌<◌, ◌≤◌}
 use Rattle.std.specs.List.Sorted.{IsPermutation}
 use Rattle.std.proofs.HeapSift as sifts
-use Rattle.search.specs.Queues.{queue, places, Told, Noted}
+use Rattle.search.specs.Queues.{queue, places, turned_order, Noted}
+use Rattle.search.proofs.Ranks.{queue_order}
 use Rattle.search.proofs.queue.rise.Given as goal
 
 abbrev pub invariant-loop-place : goal.invariant-loop-place
@@ -9,7 +10,7 @@ invariant-loop-place g l =
     (l.place < l.count)
     × (l.place ≤ l.initial.place)
     × IsPermutation (queue l.count l.initial.table) (queue l.count l.table)
-    × sifts.Rising (Told (g.T.Tariff.charges l.tariff).le) (queue l.count l.initial.table) l.initial.place (queue l.count l.table) l.place
+    × sifts.Rising (turned_order (g.T.Tariff.charges l.tariff).le) (queue_order (g.T.Tariff.charges l.tariff)) (queue l.count l.initial.table) l.initial.place (queue l.count l.table) l.place
     × (Noted (queue l.count l.initial.table) (places l.initial.table) → Noted (queue l.count l.table) (places l.table))
 
 abbrev pub decreases-loop-place : goal.decreases-loop-place

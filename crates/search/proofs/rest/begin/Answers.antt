@@ -1,6 +1,5 @@
-use Rattle.std.proofs.Common.{◌≡◌, [], ◌∷◌, length, take, Some, None, sym, refl, ap, ◌∙◌, subst, arith}
+use Rattle.std.proofs.Common.{◌≡◌, [], ◌∷◌, length, take, Some, None, sym, refl, ap, subst, arith}
 use Rattle.search.specs.Lined.{Lined}
-use Rattle.search.specs.Session.{beginning}
 use Rattle.search.specs.Left.{lengths, first_row}
 use Rattle.search.proofs.Faults.{some_bench, bench_is}
 use Rattle.search.proofs.Lent.{ready}
@@ -52,7 +51,7 @@ invariant_of-result g c =
     let task = c.args.rest.task in
     let l = lengths 0 (length t.rows.now) (length t.queue.now) (length t.plan.now) (length t.marks.now) (length t.work.now) in
     let r = ready (some_bench task) c.args.start l (sym (c.in_default.ensures (some_bench task) 0 (bench_is task))) in
-    ((omega (arith, r.some_row), r.few, omega arith, refl), tt)
+    record { numbers = (omega (arith, r.some_row), r.few, omega arith, refl) }
 
 pub returns : goal.returns
 returns g c =

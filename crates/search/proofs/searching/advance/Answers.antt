@@ -1,9 +1,8 @@
-use Rattle.std.proofs.Common.{◌≡◌, ◌≤◌, length, take, drop, Some, None, sym, refl, ap, ◌∙◌, subst, arith}
+use Rattle.std.proofs.Common.{◌≤◌, length, take, drop, Some, sym, refl, ap, ◌∙◌, subst, arith}
 use Rattle.std.proofs.lemmas.List.{length-take-le}
 use Rattle.task.specs.Benches.{bench_of}
 use Rattle.search.specs.Steps.{State}
 use Rattle.search.specs.Counts.{state_of}
-use Rattle.search.specs.Session.{advancing}
 use Rattle.search.specs.Left.{lengths, quest, Written, plan_found}
 use Rattle.search.specs.Conclusions.{Concluded}
 use Rattle.search.proofs.Advancings.{later, stood, went_so, listed_so, kept_past}

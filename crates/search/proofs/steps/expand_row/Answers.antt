@@ -1,4 +1,4 @@
-use Rattle.std.proofs.Common.{◌≡◌, ◌-◌, ◌<◌, ◌≤◌, length, get_or, take, drop, set, Some, sym, refl, ap, ◌∙◌, subst, arith, length-set, get_or-take, drop-set-lt}
+use Rattle.std.proofs.Common.{◌≡◌, ◌-◌, ◌<◌, length, get_or, take, drop, set, Some, sym, ap, ◌∙◌, subst, arith, length-set, get_or-take, drop-set-lt}
 use lib.Seq.{take-set-lt}
 use Rattle.std.proofs.lemmas.List.{length-take-le, get_or_default}
 use Rattle.task.specs.Benches.{bench_of}
@@ -6,7 +6,7 @@ use Rattle.task.proofs.Tables.{act_count}
 use Rattle.search.specs.Rows.{shut, row, blank}
 use Rattle.search.specs.Steps.{problem, sweep}
 use Rattle.search.specs.Queues.{queue}
-use Rattle.search.specs.Lined.{Matched, Lined}
+use Rattle.search.specs.Lined.{Matched}
 use Rattle.search.specs.Counts.{posed, byte_marked}
 use Rattle.search.proofs.Lines.{matched_close, popped_least_row}
 use Rattle.search.proofs.Sweeps.{expand_is}

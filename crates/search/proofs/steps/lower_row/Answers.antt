@@ -1,4 +1,4 @@
-use Rattle.std.proofs.Common.{◌≡◌, ◌<◌, Bool, true, false, cond, length, get_or, take, drop, set, sym, refl, ap, ◌∙◌, subst, arith, length-set, get_or-take, drop-set-lt}
+use Rattle.std.proofs.Common.{◌≡◌, ◌<◌, true, false, length, get_or, take, set, sym, refl, ap, ◌∙◌, subst, arith, length-set, get_or-take, drop-set-lt}
 use lib.Seq.{take-set-lt}
 use Rattle.std.proofs.lemmas.List.{length-take-le}
 use Rattle.std.proofs.lemmas.Bool.{not-true, not-false}

@@ -1,4 +1,4 @@
-use Rattle.std.proofs.Common.{◌≡◌, ◌+◌, ◌<◌, ◌≤◌, [], ◌∷◌, ◌++◌, length, take, drop, set, sym, refl, ap, ◌∙◌, subst, arith, drop-set-lt}
+use Rattle.std.proofs.Common.{◌≡◌, ◌+◌, [], ◌∷◌, ◌++◌, length, take, set, sym, refl, ap, subst, arith, drop-set-lt}
 use Rattle.std.proofs.lemmas.List.{take_more_set, length-take-le, length_push}
 use Rattle.search.specs.Queues.{queue}
 use Rattle.search.specs.Lined.{Matched}

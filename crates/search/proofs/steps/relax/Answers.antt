@@ -1,4 +1,4 @@
-use Rattle.std.proofs.Common.{◌≡◌, take, refl, ◌∙◌}
+use Rattle.std.proofs.Common.{take, refl, ◌∙◌}
 use Rattle.task.specs.Benches.{act_of}
 use Rattle.search.specs.Counts.{posed}
 use Rattle.search.proofs.Sweeps.{relaxed_within}

@@ -1,8 +1,8 @@
-use Rattle.std.proofs.Common.{◌≡◌, suc, ◌+◌, ◌-◌, ◌<◌, ◌≤◌, true, false, cond, length, take, drop, sym, refl, ap, ◌∙◌, arith}
+use Rattle.std.proofs.Common.{◌≡◌, suc, ◌-◌, ◌<◌, cond, length, take, sym, ap, ◌∙◌, arith}
 use Rattle.std.proofs.lemmas.List.{length-take-le}
 use Rattle.task.specs.Benches.{bench_of, world}
 use Rattle.search.specs.Rows.{on, over}
-use Rattle.search.specs.Steps.{problem, row_at, advance}
+use Rattle.search.specs.Steps.{problem, advance}
 use Rattle.search.specs.Queues.{queue}
 use Rattle.search.specs.Counts.{posed}
 use Rattle.search.proofs.Lines.{none_open}

@@ -1,4 +1,4 @@
-use Rattle.std.proofs.Common.{◌≡◌, ◌+◌, ◌<◌, ◌≤◌, true, false, cond, length, take, drop, sym, refl, ap, ◌∙◌, subst, arith}
+use Rattle.std.proofs.Common.{◌≡◌, cond, take, sym, refl, ap, ◌∙◌, arith}
 use Rattle.task.specs.Benches.{bench_of}
 use Rattle.search.specs.Rows.{on, over}
 use Rattle.search.specs.Steps.{problem, sweep}

@@ -1,5 +1,5 @@
-use Rattle.std.proofs.Common.{◌≡◌, ◌<◌, true, false, length, take, sym, refl, ap, ◌∙◌, subst, arith}
-use Rattle.task.specs.Benches.{Act, act_of, bench_of}
+use Rattle.std.proofs.Common.{◌<◌, true, false, length, take, refl, ◌∙◌, subst, arith}
+use Rattle.task.specs.Benches.{Act, bench_of}
 use Rattle.task.proofs.Tables.{act_count}
 use Rattle.tariff.specs.Totals.{SumOfFew, and_act}
 use Rattle.search.specs.Steps.{problem}
