@@ -1,6 +1,7 @@
 // compare: random small tasks, searched by the session and by an exhaustive search; their marks, by the rules and
 // by a plain closure; their books, whole and damaged. It says what it compared and how many answers differ.
 #![tactic(auto)]
+
 use chance::Chance;
 use damage::{Fate, book_of, damaged, reread};
 use judge::{ended_rightly, marks_so};
