@@ -1,5 +1,5 @@
 -- What is said once a book was read.
-use Rattle.std.proofs.Common.{◌≡◌, ℕ, List, [], ◌∷◌, Ok, Err, Result, sym, ap}
+use Rattle.std.proofs.Common.{◌≡◌, ℕ, List, [], ◌∷◌, Ok, Err, Result, ap}
 use Rattle.task.specs.declared.data.Action.{Action}
 use Rattle.task.specs.declared.data.Task.{Task}
 use Rattle.task.specs.declared.refusal.Refusal.{Refusal}

@@ -1,8 +1,8 @@
 -- What a walk has cost, action by action.
-use Rattle.std.proofs.Common.{◌≡◌, ℕ, ◌+◌, ◌≤◌, List, [], ◌∷◌, length, sym, refl, ap, ◌∙◌, arith}
+use Rattle.std.proofs.Common.{◌≡◌, ℕ, ◌≤◌, List, [], ◌∷◌, refl, ap, ◌∙◌, arith}
 use Rattle.task.specs.declared.data.Action.{Action}
 use Rattle.task.specs.Benches.{Act, act_of}
-use Rattle.tariff.specs.Charges.{Charges, Billable}
+use Rattle.tariff.specs.Charges.{Charges}
 use Rattle.tariff.specs.Time.{time}
 use Rattle.tariff.specs.Presses.{pressing}
 use Rattle.tariff.specs.Totals.{sum, and_act, SumOfFew}

@@ -1,5 +1,5 @@
 -- What a walk's last line means.
-use Rattle.std.specs.Prelude.{◌≡◌, ℕ, ◌≤◌, Bool, true, List, [], ◌∷◌, ◌++◌, length}
+use Rattle.std.specs.Prelude.{◌≡◌, ℕ, ◌≤◌, true, List, [], ◌∷◌, ◌++◌, length}
 use Rattle.task.specs.Benches.{Bench, world, Plan}
 use Rattle.tariff.specs.declared.charge.Pressed.{Pressed}
 use Rattle.tariff.specs.Time.{time}

@@ -1,5 +1,6 @@
 // Walks: a list of actions, done one after another from a start setting.
 #![tactic(auto)]
+
 ghost use Rattle.std.specs.Prelude.{◌≡◌, ◌≤◌, [], ◌∷◌, map, length, IfOk, Ok};
 ghost use Rattle.task.specs.Benches.{act_of, bench_of};
 ghost use Rattle.tariff.specs.Totals.{SumOfFew, and_act};
@@ -22,7 +23,7 @@ use text::{Unread, cut, numbers};
 
 // The sum with the action's charge.
 fn with_action<T: Tariff>(tariff: &T, sum: T::Charge, action: &Action) -> T::Charge
-    ensures { SumOfFew (charges tariff.now) (and_act (charges tariff.now) sum (act_of action.now)) → result ≡ and_act (charges tariff.now) sum (act_of action.now) }
+    ensures { SumOfFew (T.charges tariff.now) (and_act (T.charges tariff.now) sum (act_of action.now)) → result ≡ and_act (T.charges tariff.now) sum (act_of action.now) }
 {
     match tariff.add(sum, action, tariff.most()) {
         Added::Within(more) => more,

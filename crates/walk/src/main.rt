@@ -1,6 +1,7 @@
 // Walks a list of actions through a bench: reads the book `bench.bk`, then a line with the start setting
 // and a line with the actions' numbers.
 #![tactic(auto)]
+
 use std::fs;
 use std::io::Read;
 use validate::walk;

@@ -1,4 +1,4 @@
-use Rattle.std.proofs.Common.{◌≡◌, ltb, sym, ap, ◌∙◌}
+use Rattle.std.proofs.Common.{ltb, sym, ap, ◌∙◌}
 use Rattle.std.proofs.lemmas.Bool.{cond-true, cond-false, lt-ltb, le-ltb}
 use Rattle.task.specs.Settings.{unmet}
 use Rattle.task.specs.Benches.{Act, act_of}

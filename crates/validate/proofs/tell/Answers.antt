@@ -1,7 +1,7 @@
 use Rattle.std.proofs.Common.{◌≡◌, ℕ, List, map, Ok, vec_items, Result, sym, ap, ◌∙◌}
 use Rattle.task.specs.Benches.{bench_of}
 use Rattle.text.specs.Fields.{before, after, numbers_on}
-use Rattle.validate.specs.Walks.{shown, by_values, asked}
+use Rattle.validate.specs.Walks.{shown, by_values}
 use Rattle.validate.proofs.Made.{made_more}
 use Rattle.validate.proofs.tell.Goals as goal
 

@@ -1,4 +1,4 @@
-use Rattle.std.proofs.Common.{◌≡◌, ◌∙◌}
+use Rattle.std.proofs.Common.{◌∙◌}
 use Rattle.book.specs.Format.{parse_into}
 use Rattle.validate.proofs.Made.{made_more}
 use Rattle.validate.proofs.Books.{was_read, was_refused}

@@ -1,4 +1,4 @@
-use Rattle.std.proofs.Common.{◌≡◌, ◌+◌, ◌≤◌, ◌++◌, map, length, drop, vec_items}
+use Rattle.std.proofs.Common.{◌≡◌, ◌+◌, ◌++◌, map, drop, vec_items}
 use Rattle.task.specs.Benches.{bench_of}
 use Rattle.validate.specs.Walks.{shown, steps, Counted}
 use Rattle.validate.proofs.walk_from.Given as goal
