@@ -1,7 +1,7 @@
 -- A rule that marks more than it needs: the smallest closed set, and every third action besides.
-use Rattle.std.specs.Prelude.{◌≡◌, ℕ, ◌+◌, ◌%◌, Bool, true, false, ◌||◌, List, ◌==◌, slice_index}
+use Rattle.std.specs.Prelude.{ℕ, ◌+◌, ◌%◌, Bool, ◌||◌, List, ◌==◌, slice_index}
 use Rattle.std.proofs.lemmas.Bool.{or_left}
-use Rattle.task.specs.Benches.{Bench, world, Plan, Lawful, SettingOf}
+use Rattle.task.specs.Benches.{Bench, world}
 use Rattle.rules.specs.Marks.{Begun, Marking}
 use Rattle.rules.specs.Rules.{stubborn_marking}
 use Rattle.rules.specs.Sets.{stubborn}

@@ -1,6 +1,6 @@
 -- A tariff with rates of its own: so much for a tenth, so much for a press.
-use Rattle.std.specs.Prelude.{◌≡◌, ℕ, ◌+◌, ◌*◌, ◌≤◌, true, List, [], ◌∷◌, length, nat_le, refl}
-use Rattle.std.proofs.Common.{sym, ap, ◌∙◌, add_assoc, add_comm, zero-add, mul-suc, mul-le-mul_left, arith}
+use Rattle.std.specs.Prelude.{◌≡◌, ℕ, ◌+◌, ◌*◌, ◌≤◌, true, List, [], ◌∷◌, length, nat_le}
+use Rattle.std.proofs.Common.{add_assoc, add_comm, zero-add, mul-suc, mul-le-mul_left, arith}
 use Rattle.std.specs.List.{AllByRecursion}
 use Rattle.std.proofs.lemmas.Bool.{le-leb}
 use Rattle.task.specs.Benches.{Act}
@@ -40,7 +40,7 @@ module _ (tenth press : ℕ) where
   rated = record {
     zero = 0;
     plus = ◌+◌;
-    le = leb;
+    le = nat_le;
     charge = rate;
     le_trans = leb_trans;
     le_total = leb_total;

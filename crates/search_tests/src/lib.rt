@@ -1,5 +1,6 @@
 // A tariff and a rule of a user's own.
 #![tactic(auto)]
+
 ghost use Rattle.std.specs.Prelude.{◌≡◌, ℕ, ◌+◌, ◌%◌, ◌<◌, length, if◌then◌else◌, nat_eq, slice_index};
 ghost use Rattle.task.specs.Benches.{act_of};
 ghost use Rattle.search_tests.specs.Rates.{rate, rated};
