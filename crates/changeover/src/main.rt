@@ -1,6 +1,7 @@
 // A whole changeover: reads the book `bench.bk`, searches from the setting 0 1 0 0 for a cheapest plan of at
 // most 23 tenths, takes its actions one by one, and gives the search up.
 #![tactic(auto)]
+
 use book::read;
 use rules::Atoms;
 use search::{
