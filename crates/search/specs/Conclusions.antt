@@ -15,7 +15,7 @@ use Rattle.search.specs.Counts.{outcome_of}
 use Rattle.search.specs.Left.{quest, old_quest, Written}
 
 -- the search goes on with these numbers
-pub record Goes_on {C : Type 0} (task : Task) (q : Quest C) (r : Ran) (s : Search C) : Type 0 where
+pub record GoesOn {C : Type 0} (task : Task) (q : Quest C) (r : Ran) (s : Search C) : Type 0 where
   pub same_task : s.task ≡ task
   pub asked : quest s ≡ q
   pub used : s.used ≡ r.sizes.used
@@ -33,7 +33,7 @@ pub record EndsSo {C : Type 0} (task : Task) (q : Quest C) (count : ℕ) (how : 
 
 -- the answer to an Advance, by how the search stands after its steps
 abbrev pub Concluded : {C : Type 0} → C → (C → C → Bool) → Task → Quest C → Ran → List (Row C) → List ℕ → List ℕ → Advanced C → Type 0
-Concluded zero le task q r rows plan plan' (advanced.Working s n) = (outcome_of r.progress ≡ going) × (n ≡ r.expanded) × Goes_on task q r s × (plan' ≡ plan)
+Concluded zero le task q r rows plan plan' (advanced.Working s n) = (outcome_of r.progress ≡ going) × (n ≡ r.expanded) × GoesOn task q r s × (plan' ≡ plan)
 Concluded zero le task q r rows plan plan' (advanced.Found e c n) =
     (i : ℕ) × (outcome_of r.progress ≡ at_goal i) × (n ≡ r.expanded) × (c ≡ (row zero le rows i).charge) × EndsSo task q r.expanded (Found c) (plan_of zero le rows i) e × Written (plan_of zero le rows i) plan plan'
 Concluded zero le task q r rows plan plan' (advanced.NoPlan e n) = (outcome_of r.progress ≡ exhausted) × (n ≡ r.expanded) × EndsSo task q r.expanded NoPlan [] e × (plan' ≡ plan)
