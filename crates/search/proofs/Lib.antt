@@ -21,6 +21,7 @@ pub mod Plans
 mod Lines
 pub mod Sessions
 pub mod Takings
+mod Seeks
 mod Placings
 mod Sweeps
 mod Running
