@@ -1,21 +1,24 @@
 -- An accepted book: each of its records is admitted.
-use Rattle.std.proofs.Common.{◌≡◌, ℕ, zero, suc, ◌+◌, ◌-◌, ◌<◌, ◌≤◌, List, [], ◌∷◌, ◌++◌, map, length, take, drop, set, Some, None, Ok, Err, Option, Result, sym, refl, ap, ◌∙◌, subst, arith}
+use Rattle.std.proofs.Common.{◌≡◌, ℕ, zero, suc, ◌+◌, ◌-◌, ◌<◌, ◌≤◌, List, [], ◌∷◌, ◌++◌, map, length, take, drop, Some, None, Ok, Err, Option, Result, MatchResult, sym, refl, ap, ◌∙◌, subst, arith}
 use Rattle.std.specs.List.{between}
-use Rattle.std.proofs.lemmas.List.{append-nil, length_push, take_more_set, take_rest, map_push, drop-drop}
+use Rattle.std.proofs.lemmas.List.{append-nil, length_push, drop-drop}
 use Rattle.task.specs.declared.data.Action.{Action}
 use Rattle.task.specs.declared.refusal.Fault.{Fault}
 use Rattle.task.specs.declared.refusal.Fault.TheVariants.{OutOfPlace}
 use Rattle.task.specs.declared.refusal.Refusal.{Refusal}
-use Rattle.task.specs.Benches.{Act, Bench, act_of}
+use Rattle.task.specs.Benches.{Bench, act_of}
 use Rattle.book.specs.declared.records.Head.{Head}
+use Rattle.book.specs.declared.records.Raw.{Raw}
+use Rattle.book.specs.declared.records.Record.{Record}
+use Rattle.book.specs.declared.records.Records.{Records}
 use Rattle.book.specs.declared.Stage.{Stage}
 use Rattle.book.specs.declared.Stage.TheVariants as stage
-use Rattle.book.specs.Records.{Parts, variable_part, action_part, goal_part, head_of, parts_of}
-use Rattle.book.specs.Format.{stage_after, fault_in, grown, unless, or_refuse, and_then, admitted, Reading, reading, step_of, run, start, finished, parse}
-use Rattle.book.specs.Reader.{acts_in, Limited, Filled}
+use Rattle.book.specs.Records.{Parts, variable_part, action_part, goal_part, head_of, parts_of, shown_result, FirstRecord, Handed}
+use Rattle.book.specs.Format.{stage_after, fault_in, grown, unless, or_refuse, and_then, admitted, Reading, reading, after_record, step_of, run, start, finished, parse}
+use Rattle.book.specs.Reader.{acts_in, Limited, Filled, Fits}
 use Rattle.book.proofs.Faults.{limited}
-use Rattle.book.proofs.Steps.{after_head, after_stage, after_parts}
-use Rattle.book.proofs.Runs.{Walk, goes, more, ends}
+use Rattle.book.proofs.Steps.{after_stage, after_parts}
+use Rattle.book.proofs.Runs.{Walk, begins, some_left, goes, more, ends}
 
 err_ok : {X : Type 0} (e : Refusal) (x : X) → Err e ≡ Ok x → ⊥
 err_ok e x h = let z : ◌≡◌ {A = ℕ} 0 1 = cc in omega arith
@@ -48,12 +51,14 @@ pub record Admitted (σ : Reading) (bytes : List ℕ) (at : ℕ) (next : Reading
 
 pub admits : (σ : Reading) (bytes : List ℕ) (at : ℕ) (next : Reading × ℕ) → step_of σ bytes at ≡ Ok next → Admitted σ bytes at next
 admits σ bytes at next e =
-    let p = then_ok (head_of bytes at) (after_head σ bytes at) next e in
+    let p = then_ok (head_of bytes at) (λ h. and_then (after_record σ h.kind (between 4 (4 + h.size) bytes) at) (λ τ. Ok (τ, 4 + h.size))) next e in
     let h : Head = p.0 in
-    let q = then_ok (or_refuse (stage_after σ.stage h.kind) OutOfPlace at) (after_stage σ bytes at h) next p.2 in
+    let body : List ℕ = between 4 (4 + h.size) bytes in
+    let r = then_ok (after_record σ h.kind body at) (λ τ. Ok (τ, 4 + h.size)) next p.2 in
+    let q = then_ok (or_refuse (stage_after σ.stage h.kind) OutOfPlace at) (after_stage σ h.kind body at) r.0 r.1 in
     let s : Stage = q.0 in
-    let u = then_ok (parts_of h.kind (between 4 (4 + h.size) bytes) at) (after_parts σ at h s) next q.2 in
-    let v = then_ok (admitted σ.bench u.0 at) (λ b. Ok (reading s b, 4 + h.size)) next u.2 in
+    let u = then_ok (parts_of h.kind body at) (after_parts σ at s) r.0 q.2 in
+    let v = then_ok (admitted σ.bench u.0 at) (λ b. Ok (reading s b)) r.0 u.2 in
     let w = unless_ok (fault_in σ.bench.sizes (length σ.bench.actions) u.0) at (grown σ.bench u.0) v.0 v.1 in
     record {
       head = h;
@@ -63,7 +68,7 @@ admits σ bytes at next e =
       is_stage = or_refuse_ok (stage_after σ.stage h.kind) OutOfPlace at s q.1;
       is_parts = u.1;
       fine = w.0;
-      leads = sym (ok_same _ _ v.2) ∙ ap (λ b. (reading s b, 4 + h.size)) (sym w.1);
+      leads = sym (ok_same _ _ r.2) ∙ ap (λ τ. (τ, 4 + h.size)) (sym (ok_same _ _ v.2) ∙ ap (reading s) (sym w.1));
     }
 
 pub acts_grown : (b : Bench) (p : Parts) → (grown b p).actions ≡ b.actions ++ acts_in p
@@ -137,45 +142,76 @@ pub record Filling (book bytes : List ℕ) (at count : ℕ) (before after : List
   pub first : map act_of (take count after) ≡ reached.bench.actions
   pub rest : drop count after ≡ drop count before
 
-pub filling_begins : (book : List ℕ) (table : List Action) → Walk book book 0 start → Filling book book 0 0 table table
-filling_begins book table w = record { reached = start; walk = w; number = refl; first = refl; rest = refl }
+pub filling_begins : (book : List ℕ) (table : List Action) (now : Records) → now.left.now ≡ book → now.at ≡ 0 → Filling book now.left.now now.at 0 table table
+filling_begins book table now left at = record { reached = start; walk = begins book now.left.now now.at start left at refl; number = refl; first = refl; rest = refl }
 
-pub put_first : (table : List Action) (k : ℕ) (x : Action) (p : Parts) (a : Act) → p ≡ action_part a → act_of x ≡ a → k < length table → map act_of (take (k + 1) (set table k x)) ≡ map act_of (take k table) ++ acts_in p
-put_first table k x p a q e h =
-    ap (map act_of) (take_more_set table k x h) ∙ map_push act_of (take k table) x ∙ ap (λ z. map act_of (take k table) ++ z) (ap (λ z. z ∷ []) e ∙ sym (ap acts_in q))
-
--- the record that is read is the one that is admitted
-pub same_head : (σ : Reading) (bytes : List ℕ) (at : ℕ) (next : Reading × ℕ) (a : Admitted σ bytes at next) (h : Head) → Ok h ≡ head_of bytes at → h ≡ a.head
+-- the head and the parts that are read are those that are admitted
+same_head : (σ : Reading) (bytes : List ℕ) (at : ℕ) (next : Reading × ℕ) (a : Admitted σ bytes at next) (h : Head) → Ok h ≡ head_of bytes at → h ≡ a.head
 same_head σ bytes at next a h e = ok_same _ _ (e ∙ a.is_head)
 
-pub same_parts : (σ : Reading) (bytes : List ℕ) (at : ℕ) (next : Reading × ℕ) (a : Admitted σ bytes at next) (h : Head) (p : Parts) → Ok h ≡ head_of bytes at → Ok p ≡ parts_of h.kind (between 4 (4 + h.size) bytes) at → p ≡ a.parts
-same_parts σ bytes at next a h p e f = ok_same _ _ (f ∙ ap (λ z. parts_of z.kind (between 4 (4 + z.size) bytes) at) (same_head σ bytes at next a h e) ∙ a.is_parts)
-
-pub no_head : (σ : Reading) (bytes : List ℕ) (at : ℕ) (next : Reading × ℕ) → Admitted σ bytes at next → (e : Refusal) → Err e ≡ head_of bytes at → ⊥
-no_head σ bytes at next a e h = err_ok _ _ (h ∙ a.is_head)
-
-pub no_parts : (σ : Reading) (bytes : List ℕ) (at : ℕ) (next : Reading × ℕ) (a : Admitted σ bytes at next) (h : Head) → Ok h ≡ head_of bytes at → (e : Refusal) → Err e ≡ parts_of h.kind (between 4 (4 + h.size) bytes) at → ⊥
-no_parts σ bytes at next a h g e f = err_ok _ _ (f ∙ ap (λ z. parts_of z.kind (between 4 (4 + z.size) bytes) at) (same_head σ bytes at next a h g) ∙ a.is_parts)
-
--- there is room for the record's action
-pub has_room : (book bytes : List ℕ) (at count : ℕ) (before after : List Action) (b : Bench) (f : Filling book bytes at count before after) (t : Taken book bytes at f.reached b) (h : Head) (p : Parts) → parse book ≡ Ok b → h ≡ t.admitted.head → p ≡ t.admitted.parts → 4 + h.size ≤ length bytes → (places : ℕ) → length b.actions ≤ places → count + length (acts_in p) ≤ places
-has_room book bytes at count before after b f t h p e g q within places room =
-    omega (arith, room, no_more book _ _ _ b (t.walk (4 + h.size) (ap (λ z. 4 + z.size) g) within) e, longer f.reached.bench t.admitted.parts, f.number, ap (λ z. length (acts_in z)) q)
+read_parts : (σ : Reading) (now after : Records) (next : Reading × ℕ) (a : Admitted σ now.left.now now.at next) (raw : Raw) → FirstRecord now raw after → (x : Result Parts Refusal) → x ≡ parts_of raw.kind raw.body.now raw.at → x ≡ Ok a.parts
+read_parts σ now after next a raw f x e =
+    e
+    ∙ (λ i. parts_of (f.kind i) (f.body i) (f.place i))
+    ∙ ap (λ h. parts_of h.kind (between 4 (4 + h.size) now.left.now) now.at) (same_head σ now.left.now now.at next a f.head f.is_head)
+    ∙ a.is_parts
 
 further : (n m : ℕ) (xs ys : List Action) → drop n xs ≡ drop n ys → n ≤ m → drop m xs ≡ drop m ys
 further n m xs ys e h =
     let k : n + (m - n) ≡ m = omega arith in
     ap (λ z. drop z xs) (sym k) ∙ sym (drop-drop (m - n) n xs) ∙ ap (drop (m - n)) e ∙ drop-drop (m - n) n ys ∙ ap (λ z. drop z ys) k
 
-pub goes_on : (book bytes : List ℕ) (at count : ℕ) (before after : List Action) (b : Bench) (f : Filling book bytes at count before after) (t : Taken book bytes at f.reached b) (h : Head) (p : Parts) → h ≡ t.admitted.head → p ≡ t.admitted.parts → 4 + h.size ≤ length bytes → (count' : ℕ) (after' : List Action) → count' ≡ count + length (acts_in p) → map act_of (take count' after') ≡ map act_of (take count after) ++ acts_in p → drop count' after' ≡ drop count' after → Filling book (take (length bytes - (4 + h.size)) (drop (4 + h.size) bytes)) (at + (4 + h.size)) count' before after'
-goes_on book bytes at count before after b f t h p g q within count' after' n s d =
-    rw take_rest (record {
-      reached = reading t.admitted.stage (grown f.reached.bench t.admitted.parts);
-      walk = t.walk (4 + h.size) (ap (λ z. 4 + z.size) g) within;
-      number = omega (arith, n, f.number, longer f.reached.bench t.admitted.parts, ap (λ z. length (acts_in z)) q);
-      first = s ∙ (λ i. f.first i ++ acts_in (q i)) ∙ sym (acts_grown f.reached.bench t.admitted.parts);
-      rest = d ∙ further count count' after before f.rest (omega arith);
-    })
+-- what the second pass knows of a record whose parts it has read
+pub record Second (book : List ℕ) (next : Records) (count : ℕ) (before after : List Action) (p : Parts) : Type 0 where
+  pub limited : Limited p
+  pub room : count + length (acts_in p) ≤ length before
+  pub on : (count' : ℕ) (after' : List Action) → count' ≡ count + length (acts_in p) → map act_of (take count' after') ≡ map act_of (take count after) ++ acts_in p → drop count' after' ≡ drop count' after → Filling book next.left.now next.at count' before after'
+
+-- what a record that was handed on says
+abbrev pub said : Result Raw Refusal → Result Parts Refusal
+said (Ok raw) = parts_of raw.kind raw.body.now raw.at
+said (Err e) = Err e
+
+pub said_by : (x : Result Raw Refusal) (r : Result Record Refusal) (post : Raw → Result Record Refusal → Type 0) → MatchResult x (λ raw. post raw r) (λ e. r ≡ Err e) → ((raw : Raw) (q : Result Record Refusal) → post raw q → shown_result q ≡ parts_of raw.kind raw.body.now raw.at) → shown_result r ≡ said x
+said_by (Ok raw) r post h k = k raw r h
+said_by (Err e) r post h k = ap shown_result h
+
+-- the parts of the first record are those that are admitted
+is_admitted : (now next : Records) (x : Result Raw Refusal) (σ : Reading) (to : Reading × ℕ) (a : Admitted σ now.left.now now.at to) → Handed now (Some x) next → said x ≡ Ok a.parts
+is_admitted now next (Ok raw) σ to a handed = read_parts σ now next to a raw handed.1 (parts_of raw.kind raw.body.now raw.at) refl
+is_admitted now next (Err e) σ to a handed = absurd (err_ok _ _ (handed.1 ∙ a.is_head))
+
+pub second : (book : List ℕ) (now next : Records) (x : Result Raw Refusal) (count : ℕ) (before after : List Action) (p : Parts) → Fits book (length before) → Filling book now.left.now now.at count before after → Handed now (Some x) next → Ok p ≡ said x → Second book next count before after p
+second book now next (Err e) count before after p fits w handed is = absurd (err_ok _ _ (sym is))
+second book now next (Ok raw) count before after p fits w handed is =
+    let f = handed.1 in
+    let t = takes book now.left.now now.at w.reached fits.bench w.walk handed.0 fits.accepted in
+    let a = t.admitted in
+    let τ : Reading = reading a.stage (grown w.reached.bench a.parts) in
+    let size : ℕ = 4 + f.head.size in
+    let same : p ≡ a.parts = ok_same _ _ (is ∙ is_admitted now next (Ok raw) w.reached t.next a handed) in
+    let sized : size ≡ 4 + a.head.size = ap (λ h. 4 + h.size) (same_head w.reached now.left.now now.at t.next a f.head f.is_head) in
+    let walk = t.walk size sized f.within in
+    let here : Walk book next.left.now next.at τ = subst (λ z. Walk book z next.at τ) (sym f.left) (subst (λ n. Walk book (drop size now.left.now) n τ) (sym f.on) walk) in
+    let added = longer w.reached.bench a.parts in
+    let acts : length (acts_in p) ≡ length (acts_in a.parts) = ap (λ z. length (acts_in z)) same in
+    record {
+      limited = subst Limited (sym same) (limited w.reached.bench.sizes (length w.reached.bench.actions) a.parts a.fine);
+      room = omega (arith, fits.room, no_more book _ _ _ fits.bench walk fits.accepted, added, w.number, acts);
+      on = λ count' after' n s d. record {
+        reached = τ;
+        walk = here;
+        number = omega (arith, n, w.number, added, acts);
+        first = s ∙ (λ i. w.first i ++ acts_in (same i)) ∙ sym (acts_grown w.reached.bench a.parts);
+        rest = d ∙ further count count' after before w.rest (omega arith);
+      };
+    }
+
+-- no record of an accepted book has a fault
+pub no_fault : (book : List ℕ) (now next : Records) (x : Result Raw Refusal) (count : ℕ) (before after : List Action) (b : Bench) (e : Refusal) → Filling book now.left.now now.at count before after → Handed now (Some x) next → parse book ≡ Ok b → Err e ≡ said x → ⊥
+no_fault book now next x count before after b e w handed accepted is =
+    let t = takes book now.left.now now.at w.reached b w.walk (some_left now next x handed) accepted in
+    err_ok _ _ (is ∙ is_admitted now next x w.reached t.next t.admitted handed)
 
 pub filled : (book bytes : List ℕ) (at count : ℕ) (before after : List Action) (b : Bench) → Filling book bytes at count before after → length bytes ≡ 0 → parse book ≡ Ok b → Filled before after b.actions
 filled book bytes at count before after b f none e =
@@ -185,6 +221,3 @@ filled book bytes at count before after b f none e =
       first = ap (λ n. map act_of (take n after)) (sym same) ∙ f.first ∙ ap (λ z. z.actions) q.1;
       rest = (λ i. drop (sym same i) after) ∙ f.rest ∙ (λ i. drop (same i) before);
     }
-
-pub limited_parts : (σ : Reading) (bytes : List ℕ) (at : ℕ) (next : Reading × ℕ) (a : Admitted σ bytes at next) (p : Parts) → p ≡ a.parts → Limited p
-limited_parts σ bytes at next a p e = subst Limited (sym e) (limited σ.bench.sizes (length σ.bench.actions) a.parts a.fine)

@@ -10,10 +10,10 @@ use Rattle.task.specs.Benches.{Act}
 use Rattle.task.specs.Refusals.{refuse}
 use Rattle.book.specs.declared.records.Kind.{Kind}
 use Rattle.book.specs.declared.records.Kind.TheVariants as kind
-use Rattle.book.specs.declared.records.Head.{Head}
 use Rattle.book.specs.declared.Stage.{Stage}
-use Rattle.book.specs.Records.{Parts, variable_part, action_part, goal_part, word, kind_of, headed, head_of, atoms_in, act_in, parts_of}
-use Rattle.book.specs.Format.{stage_after, fault_in, grown, unless, or_refuse, and_then, Reading, reading, step_of}
+use Rattle.book.specs.Atoms.{atoms_in}
+use Rattle.book.specs.Records.{Parts, variable_part, action_part, goal_part, word, kind_of, headed, head_of, act_in, parts_of}
+use Rattle.book.specs.Format.{stage_after, fault_in, grown, unless, or_refuse, and_then, Reading, reading, after_record, step_of}
 use Rattle.book.specs.Print.{atoms_bytes, code_of, record_bytes, kind_in, body_bytes, part_bytes}
 use Rattle.book.proofs.Faults.{fine_act, few_atoms}
 use Rattle.book.proofs.Puts.{atoms_size, body_size}
@@ -93,11 +93,15 @@ small sizes count (goal_part atoms) h e = (tt, omega (arith, atoms_size atoms, f
 pub step_back : (σ : Reading) (p : Parts) (rest : List ℕ) (at : ℕ) (s : Stage) → length σ.bench.sizes ≤ 64 → stage_after σ.stage (kind_in p) ≡ Some s → fault_in σ.bench.sizes (length σ.bench.actions) p ≡ None → Ok (reading s (grown σ.bench p), length (part_bytes p)) ≡ step_of σ (part_bytes p ++ rest) at
 step_back σ p rest at s few stands fine =
     let m = small σ.bench.sizes (length σ.bench.actions) p few fine in
-    let h : Head = record { kind = kind_in p; size = length (body_bytes p) } in
-    let size : length (part_bytes p) ≡ 4 + length (body_bytes p) = omega arith in
-    ap (λ n. Ok (reading s (grown σ.bench p), n)) size
-    ∙ ap (λ o. and_then (unless o at (grown σ.bench p)) (λ b. Ok (reading s b, 4 + length (body_bytes p)))) (sym fine)
-    ∙ at_parts σ (part_bytes p ++ rest) at h s (Ok p)
-    (sym (head_back (kind_in p) (body_bytes p) rest at m.1))
+    let bytes : List ℕ = part_bytes p ++ rest in
+    let body : List ℕ = body_bytes p in
+    let τ : Reading = reading s (grown σ.bench p) in
+    let size : length (part_bytes p) ≡ 4 + length body = omega arith in
+    let read : Ok τ ≡ after_record σ (kind_in p) (between 4 (4 + length body) bytes) at =
+    ap (λ o. and_then (unless o at (grown σ.bench p)) (λ b. Ok (reading s b))) (sym fine)
+    ∙ at_parts σ (kind_in p) (between 4 (4 + length body) bytes) at s (Ok p)
     (ap (λ o. or_refuse o OutOfPlace at) (sym stands))
-    (sym (ap (λ l. parts_of (kind_in p) l at) (body_back (kind_in p) (body_bytes p) rest) ∙ parts_back p at m.0))
+    (sym (ap (λ l. parts_of (kind_in p) l at) (body_back (kind_in p) body rest) ∙ parts_back p at m.0)) in
+    ap (λ n. Ok (τ, n)) size
+    ∙ ap (λ z. and_then z (λ υ. Ok (υ, 4 + length body))) read
+    ∙ ap (λ z. and_then z (λ h. and_then (after_record σ h.kind (between 4 (4 + h.size) bytes) at) (λ υ. Ok (υ, 4 + h.size)))) (sym (head_back (kind_in p) body rest at m.1))

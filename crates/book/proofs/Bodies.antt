@@ -12,7 +12,8 @@ use Rattle.task.specs.Refusals.{refuse}
 use Rattle.book.specs.declared.records.Kind.{Kind}
 use Rattle.book.specs.declared.records.Kind.TheVariants as kind
 use Rattle.book.specs.declared.records.Head.{Head}
-use Rattle.book.specs.Records.{Parts, action_part, goal_part, word, kind_of, headed, head_of, atoms_in, act_in, parts_of}
+use Rattle.book.specs.Atoms.{atoms_in}
+use Rattle.book.specs.Records.{Parts, action_part, goal_part, word, kind_of, headed, head_of, act_in, parts_of}
 use Rattle.book.specs.Print.{atoms_bytes, code_of, kind_in, body_bytes, part_bytes}
 use Rattle.book.proofs.Accepted.{ok_same}
 use Rattle.book.proofs.Laws.{same_kind}

@@ -1,19 +1,39 @@
 -- The first fault of a record, and what holds of one without a fault.
-use Rattle.std.proofs.Common.{◌≡◌, ℕ, ◌+◌, ◌-◌, ◌<◌, ◌≤◌, Bool, true, false, cond, ◌&&◌, ◌||◌, eqb, ltb, leb, List, [], ◌∷◌, length, get_or, Some, None, Option, sym, refl, ap, ◌∙◌, arith}
-use Rattle.std.proofs.lemmas.Bool.{cond-false, and_parts, or_parts, ltb-true, ltb-false, leb-true, leb-false, eqb-false}
+use Rattle.std.proofs.Common.{◌≡◌, ℕ, ◌+◌, ◌-◌, ◌<◌, ◌≤◌, Bool, true, false, cond, ◌&&◌, ◌||◌, eqb, ltb, leb, List, [], ◌∷◌, length, get_or, Some, None, Ok, Err, Option, Result, MatchResult, IsErrAnd, refl, ap, ◌∙◌, arith}
+use Rattle.std.proofs.lemmas.Result.{err_from_is_err_and}
+use Rattle.std.proofs.lemmas.Bool.{cond-true, cond-false, and_from, le-leb, ne_eqb, and_parts, or_parts, ltb-true, ltb-false, leb-true, leb-false, eqb-false}
 use Rattle.task.specs.declared.data.Atom.{Atom}
 use Rattle.task.specs.declared.refusal.Fault.{Fault}
 use Rattle.task.specs.declared.refusal.Fault.TheVariants.{TooMany, ValueCount, OutsideBench, NotRising, NoEffect, OverLimit, RepeatsCondition}
+use Rattle.task.specs.declared.refusal.Refusal.{Refusal}
 use Rattle.task.specs.Benches.{Act}
+use Rattle.task.specs.Refusals.{refusal, refuse}
 use Rattle.book.specs.Records.{Parts, variable_part, action_part, goal_part}
-use Rattle.book.specs.Format.{atoms_fault, act_fault, variable_fault, crowding, repeating, or_else, fault_in}
+use Rattle.book.specs.Format.{or_fault, atoms_fault, act_fault, variable_fault, crowding, repeating, or_else, fault_in, unless}
 use Rattle.book.specs.Reader.{Limited, LimitedAct}
 
-pub act_judged : (part sizes : List ℕ) → part ≡ sizes → (n : ℕ) {a : Act} (p : Parts) → p ≡ action_part a → (r : Option Fault) → false ≡ crowding n a.conditions a.effects → r ≡ act_fault part a → r ≡ fault_in sizes n p
-act_judged part sizes s n {a} p e r k h = h ∙ ap (λ z. act_fault z a) s ∙ sym (ap (fault_in sizes n) e ∙ cond-false _ _ _ (sym k))
+-- what a check says of the fault
+pub no_fault : (o : Option Fault) → Ok tt ≡ or_fault o → None ≡ o
+no_fault None e = refl
+no_fault (Some f) e = cc
 
-pub goal_judged : (part sizes : List ℕ) → part ≡ sizes → (n : ℕ) {atoms : List Atom} (p : Parts) → p ≡ goal_part atoms → (r : Option Fault) → r ≡ atoms_fault part 0 atoms → r ≡ fault_in sizes n p
-goal_judged part sizes s n {atoms} p e r h = h ∙ ap (λ z. atoms_fault z 0 atoms) s ∙ sym (ap (fault_in sizes n) e)
+-- a check's answer, where its fault is to be refused at a place
+abbrev pub placed : {X : Type 0} → Result X Fault → ℕ → Result X Refusal
+placed (Ok x) at = Ok x
+placed (Err f) at = refuse f at
+
+-- what `map_err` answers with a closure that makes the refusal
+pub map_err_is : {X : Type 0} (o : Result X Fault) (r : Result X Refusal) (at : ℕ) (post : Fault → Refusal → Type 0) → MatchResult o (λ x. r ≡ Ok x) (λ f. IsErrAnd r (post f)) → ((f : Fault) (e : Refusal) → post f e → e ≡ refusal f at) → r ≡ placed o at
+map_err_is (Ok x) r at post h k = h
+map_err_is (Err f) r at post h k = let p = err_from_is_err_and r h in p.1 ∙ ap (λ e. Err e) (k f p.0 p.2)
+
+pub none_placed : (o : Option Fault) (at : ℕ) → Ok tt ≡ placed (or_fault o) at → None ≡ o
+none_placed None at e = refl
+none_placed (Some f) at e = cc
+
+pub fault_placed : {X : Type 0} (o : Option Fault) (at : ℕ) (x : X) (e : Refusal) → Err e ≡ placed (or_fault o) at → Err e ≡ unless o at x
+fault_placed None at x e h = cc
+fault_placed (Some f) at x e h = cc
 
 some_none : {X : Type 0} (x : X) → Some x ≡ None → ⊥
 some_none x e = let z : ◌≡◌ {A = ℕ} 0 1 = cc in omega arith
@@ -78,6 +98,14 @@ fine_act sizes count a e =
       effects = v.0;
       apart = (cleared (repeating a.conditions a.effects) None RepeatsCondition v.1).0;
     }
+
+pub fine_action : (sizes : List ℕ) (a : Act) → a.tenths ≤ 1000000 → a.presses ≤ 1000 → (length a.effects ≡ 0 → ⊥) → atoms_fault sizes 0 a.conditions ≡ None → atoms_fault sizes 0 a.effects ≡ None → repeating a.conditions a.effects ≡ false → act_fault sizes a ≡ None
+fine_action sizes a tenths presses some conditions effects apart =
+    let last : Option Fault = cond (repeating a.conditions a.effects) (Some RepeatsCondition) None in
+    cond-true _ _ (Some OverLimit) (and_from _ _ (le-leb a.tenths 1000000 tenths) (le-leb a.presses 1000 presses))
+    ∙ cond-false _ (Some NoEffect) _ (ne_eqb (length a.effects) 0 some)
+    ∙ (λ i. or_else (conditions i) (or_else (effects i) last))
+    ∙ cond-false _ (Some RepeatsCondition) _ apart
 
 pub record FineVariable (count n : ℕ) : Type 0 where
   pub room : count < 64

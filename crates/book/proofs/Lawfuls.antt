@@ -1,15 +1,14 @@
 -- A lawful bench has no fault.
-use Rattle.std.proofs.Common.{◌≡◌, ℕ, ◌+◌, ◌<◌, ◌≤◌, false, cond, List, [], ◌∷◌, length, get_or, Some, None, Option, refl, ◌∙◌, arith}
+use Rattle.std.proofs.Common.{◌≡◌, ℕ, ◌+◌, ◌<◌, ◌≤◌, false, List, [], ◌∷◌, length, get_or, None, refl, ◌∙◌, arith}
 use Rattle.std.specs.List.{AllByRecursion}
 use Rattle.std.proofs.ByRecursion.{All-weaker}
-use Rattle.std.proofs.lemmas.Bool.{cond-true, cond-false, and_from, or_from, lt-ltb, le-ltb, le-leb, lt-leb, ne_eqb}
+use Rattle.std.proofs.lemmas.Bool.{cond-true, cond-false, and_from, or_from, lt-ltb, le-ltb, le-leb, lt-leb}
 use Rattle.task.specs.declared.data.Atom.{Atom}
-use Rattle.task.specs.declared.refusal.Fault.{Fault}
-use Rattle.task.specs.declared.refusal.Fault.TheVariants.{NoEffect, OverLimit, RepeatsCondition}
 use Rattle.task.specs.Settings.{some_atom}
 use Rattle.task.specs.Benches.{Act, Rising, Inside, LawfulAct, alike}
 use Rattle.book.specs.Records.{action_part}
-use Rattle.book.specs.Format.{atoms_fault, repeating, or_else, variable_fault, fault_in}
+use Rattle.book.specs.Format.{atoms_fault, repeating, variable_fault, fault_in}
+use Rattle.book.proofs.Faults.{fine_action}
 
 pub no_variable_fault : (count n : ℕ) → count < 64 → 1 ≤ n → n ≤ 32 → variable_fault count n ≡ None
 no_variable_fault count n h k l = cond-true _ _ _ (lt-ltb count 64 h) ∙ cond-true _ _ _ (and_from _ _ (le-leb 1 n k) (le-leb n 32 l))
@@ -34,9 +33,5 @@ not_repeating conditions (e ∷ more) h = or_from _ _ h.0 (not_repeating conditi
 
 pub no_act_fault : (sizes : List ℕ) (count : ℕ) (a : Act) → count < 1024 → LawfulAct sizes a → fault_in sizes count (action_part a) ≡ None
 no_act_fault sizes count a h l =
-    let last : Option Fault = cond (repeating a.conditions a.effects) (Some RepeatsCondition) None in
     cond-false _ _ _ (or_from _ _ (lt-leb 1024 count h) (or_from _ _ (le-ltb 16 (length a.conditions) l.few_conditions) (le-ltb 16 (length a.effects) l.few_effects)))
-    ∙ cond-true _ _ (Some OverLimit) (and_from _ _ (le-leb a.tenths 1000000 l.tenths) (le-leb a.presses 1000 l.presses))
-    ∙ cond-false _ (Some NoEffect) _ (ne_eqb (length a.effects) 0 (λ e. omega (arith, e, l.some_effect)))
-    ∙ (λ i. or_else (no_atoms_fault sizes a.conditions l.conditions_inside l.conditions_rise i) (or_else (no_atoms_fault sizes a.effects l.effects_inside l.effects_rise i) last))
-    ∙ cond-false _ (Some RepeatsCondition) _ (not_repeating a.conditions a.effects l.apart)
+    ∙ fine_action sizes a l.tenths l.presses (λ e. omega (arith, e, l.some_effect)) (no_atoms_fault sizes a.conditions l.conditions_inside l.conditions_rise) (no_atoms_fault sizes a.effects l.effects_inside l.effects_rise) (not_repeating a.conditions a.effects l.apart)

@@ -1,4 +1,4 @@
-pub mod Atoms
+pub mod AtomLists
 pub mod Faults
 pub mod Outlines
 pub mod Steps

@@ -1,24 +1,14 @@
 -- A task grows with its bench.
-use Rattle.std.proofs.Common.{◌≡◌, ℕ, suc, ◌+◌, ◌-◌, ◌<◌, ◌≤◌, Bool, cond, ltb, List, [], ◌∷◌, ◌++◌, length, take, drop, set, replicate, None, sym, refl, ap, ◌∙◌, subst, arith, length-append, length-take}
+use Rattle.std.proofs.Common.{◌≡◌, ℕ, suc, ◌+◌, ◌-◌, ◌<◌, ◌≤◌, List, [], ◌∷◌, ◌++◌, length, take, set, replicate, None, sym, refl, ap, ◌∙◌, subst, arith, length-take}
 use Rattle.std.proofs.lemmas.List.{append_assoc, length_push, length-take-le, set_at, take_at}
-use Rattle.std.proofs.lemmas.Bool.{lt-ltb, cond-true}
 use Rattle.task.specs.declared.data.Atom.{Atom}
 use Rattle.task.specs.declared.data.Task.{Task}
 use Rattle.task.specs.Settings.{listed}
 use Rattle.task.specs.Benches.{Act, Bench}
-use Rattle.book.specs.Records.{Parts, variable_part, action_part, goal_part, atoms_in}
+use Rattle.book.specs.Records.{Parts, variable_part, action_part, goal_part}
 use Rattle.book.specs.Format.{fault_in, grown}
 use Rattle.book.specs.Reader.{Outline}
-use Rattle.book.proofs.Atoms.{first, atoms_more}
 use Rattle.book.proofs.Faults.{fine_variable, few_atoms}
-
-pub pushed : (done after : List Atom) (xs : List ℕ) (all : List Atom) (n : ℕ) (r : Bool) → 2 ≤ length xs → r ≡ ltb (length done) n → after ≡ cond r (done ++ first xs ∷ []) done → done ++ atoms_in xs ≡ all → length all ≤ n → after ++ atoms_in (take (length xs - 2) (drop 2 xs)) ≡ all
-pushed done after xs all n r two room e so few =
-    let rest : List Atom = atoms_in (take (length xs - 2) (drop 2 xs)) in
-    let whole : done ++ first xs ∷ rest ≡ all = ap (λ z. done ++ z) (sym (atoms_more xs two)) ∙ so in
-    let free : length done < n = omega (arith, few, ap length whole, length-append done (first xs ∷ rest)) in
-    let stored : after ≡ done ++ first xs ∷ [] = e ∙ cond-true _ _ _ (room ∙ lt-ltb _ _ free) in
-    ap (λ z. z ++ rest) stored ∙ append_assoc done (first xs ∷ []) rest ∙ whole
 
 padded_more : (xs : List ℕ) (n : ℕ) → length xs < 64 → set (xs ++ replicate (64 - length xs) 0) (length xs) n ≡ (xs ++ n ∷ []) ++ replicate (64 - length (xs ++ n ∷ [])) 0
 padded_more xs n h =

@@ -1,7 +1,7 @@
 -- The book of a lawful bench reads back to it.
-use Rattle.std.proofs.Common.{◌≡◌, ℕ, ◌+◌, ◌≤◌, List, [], ◌∷◌, ◌++◌, length, Some, None, Ok, sym, refl, subst, arith, length-append}
+use Rattle.std.proofs.Common.{◌≡◌, ℕ, ◌+◌, ◌≤◌, List, [], ◌∷◌, ◌++◌, length, take, drop, Some, None, Ok, sym, refl, ap, ◌∙◌, subst, arith, length-append}
 use Rattle.std.specs.List.{flat_map, AllByRecursion}
-use Rattle.std.proofs.lemmas.List.{append_assoc, append-nil, drop_at, length_push}
+use Rattle.std.proofs.lemmas.List.{append_assoc, append-nil, take_at, drop_at, length_push}
 use Rattle.task.specs.declared.data.Atom.{Atom}
 use Rattle.task.specs.Benches.{Act, Bench, LawfulAct, Lawful}
 use Rattle.book.specs.declared.records.Kind.TheVariants as kind
@@ -59,10 +59,14 @@ reads_back b l = go b.sizes refl l.some_variable
         let actions : List ℕ = flat_map action_bytes b.actions ++ goal_bytes b.goal in
         let fine : AllByRecursion (λ n. (1 ≤ n) × (n ≤ 32)) (n ∷ more) = subst (AllByRecursion (λ n. (1 ≤ n) × (n ≤ 32))) e l.sizes in
         let few : length (n ∷ more) ≤ 64 = subst (λ z. length z ≤ 64) e l.few_variables in
-        let w0 : Reached book (flat_map variable_bytes (n ∷ more) ++ actions) start = (0, subst (λ z. Walk book (flat_map variable_bytes z ++ actions) 0 start) e (begins book)) in
+        let w0 : Reached book (flat_map variable_bytes (n ∷ more) ++ actions) start = (0, subst (λ z. Walk book (flat_map variable_bytes z ++ actions) 0 start) e (begins book book 0 start refl refl refl)) in
         let w1 = over_record book (flat_map variable_bytes more ++ actions) start (variable_part n) stage.Actions (omega arith) refl (no_variable_fault 0 n (omega arith) fine.0.0 fine.0.1) (next_record ℕ book actions variable_bytes n more start w0) in
         let w2 = over_variables book actions (n ∷ []) more (omega arith) fine.1 w1 in
         let w3 = over_actions book (goal_bytes b.goal) b.sizes stage.Actions [] b.actions (refl, refl) l.few_variables (omega (arith, l.few_actions)) l.acts (subst (λ z. Reached book actions (reading stage.Actions (bench z [] []))) (sym e) w2) in
         let w4 : Reached book (part_bytes (goal_part b.goal) ++ []) (reading w3.0 (bench b.sizes b.actions [])) = subst (λ z. Reached book z (reading w3.0 (bench b.sizes b.actions []))) (sym (append-nil (goal_bytes b.goal))) w3.2 in
         let w5 = over_record book [] (reading w3.0 (bench b.sizes b.actions [])) (goal_part b.goal) stage.Done l.few_variables w3.1.1 (no_atoms_fault b.sizes b.goal l.goal_inside l.goal_rises) w4 in
         sym (ends book [] w5.0 (reading stage.Done b) w5.1 refl)
+
+-- so does what an output holds that begins with it
+pub is_read_back : (b : Bench) (before after : List ℕ) (n : ℕ) → Lawful b → n ≡ length (print b) → after ≡ print b ++ drop n before → parse (take n after) ≡ Ok b
+is_read_back b before after n l size is = ap parse (ap (take n) is ∙ take_at (print b) (drop n before) n (sym size)) ∙ reads_back b l

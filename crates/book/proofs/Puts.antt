@@ -1,23 +1,25 @@
 -- Bytes put one after another.
-use Rattle.std.proofs.Common.{◌≡◌, ℕ, ◌+◌, ◌-◌, ◌*◌, ◌<◌, ◌≤◌, List, [], ◌∷◌, ◌++◌, map, length, get_or, take, drop, sym, refl, ap, ◌∙◌, subst, arith, length-append, length-drop, take-append-drop, length-take}
-use borrow.Rule.Slice.PartMut.{put_mid}
-use Rattle.std.proofs.lemmas.List.{append_assoc, drop-drop, take_at, drop_at, length-take-le, drop_all, drop_more}
+use Rattle.std.proofs.Common.{◌≡◌, ℕ, ◌+◌, ◌-◌, ◌*◌, ◌<◌, ◌≤◌, List, [], ◌∷◌, ◌++◌, map, length, get_or, take, drop, sym, refl, ap, ◌∙◌, subst, arith, length-append, length-drop, length-take, sum_by}
+use Rattle.std.proofs.lemmas.List.{append_assoc, drop-drop, take_at, drop_at, length-take-le, take_more, flat_map_more}
+use Rattle.std.proofs.lemmas.List.Concat.{length-flat_map}
+use Rattle.std.proofs.lemmas.List.Folds.{length-flat_map-take, flat_map-map}
+use Rattle.std.proofs.lemmas.List.Elements.{All-from_get_or}
+use Rattle.std.proofs.lemmas.List.Sums.{sum_by-le}
 use Rattle.std.specs.List.{flat_map}
+use Rattle.task.specs.declared.data.Action.{Action}
 use Rattle.task.specs.declared.data.Atom.{Atom}
 use Rattle.task.specs.declared.data.Atoms.{Atoms}
 use Rattle.task.specs.Settings.{listed}
-use Rattle.task.specs.Benches.{Act, Bench}
+use Rattle.task.specs.Benches.{Act, Bench, act_of}
 use Rattle.book.specs.Records.{action_part}
 use Rattle.book.specs.Print.{atoms_bytes, both_bytes, body_bytes, variable_bytes, action_bytes, goal_bytes, print}
-use Rattle.book.specs.Writer.{Put}
+use Rattle.book.specs.declared.writer.Pen.{Pen}
+use Rattle.book.specs.Writer.{HasRoom, Put, Writes}
 
 pub put_length : {before after : List ℕ} {at next : ℕ} {bytes : List ℕ} → Put before after at next bytes → length after ≡ length before
 put_length {before} {after} {at} {next} {bytes} p =
     let front : length (take at before) ≡ at = length-take-le at before (omega (arith, p.size, p.room)) in
     ap length p.is ∙ omega (arith, length-append (take at before) (bytes ++ drop next before), length-append bytes (drop next before), length-drop next before, front, p.size, p.room)
-
-pub put_none : (out : List ℕ) (at : ℕ) → at ≤ length out → Put out out at at []
-put_none out at h = record { size = omega arith; room = h; is = sym (take-append-drop at out) }
 
 pub put_then : {a b c : List ℕ} {i j k : ℕ} {xs ys : List ℕ} → Put a b i j xs → Put b c j k ys → Put a c i k (xs ++ ys)
 put_then {a} {b} {c} {i} {j} {k} {xs} {ys} p q =
@@ -34,47 +36,21 @@ put_then {a} {b} {c} {i} {j} {k} {xs} {ys} p q =
       is = q.is ∙ (λ n. first n ++ (ys ++ rest n)) ∙ append_assoc (take i a) xs (ys ++ drop k a) ∙ ap (λ z. take i a ++ z) (sym (append_assoc xs ys (drop k a)));
     }
 
-pub put_as : {a b : List ℕ} {i j : ℕ} {xs ys : List ℕ} → Put a b i j xs → xs ≡ ys → Put a b i j ys
-put_as {a} {b} {i} {j} p e = subst (Put a b i j) e p
+-- one after another
+pub writes_then : {a b c : Pen} {xs ys : List ℕ} → Writes a b xs → Writes b c ys → Writes a c (xs ++ ys)
+writes_then w v = record { same = v.same ∙ w.same; put = put_then w.put v.put }
 
--- a copy into a part of the output
-pub copied : (out bytes ys : List ℕ) (at : ℕ) → ys ≡ bytes → at + length bytes ≤ length out → Put out (put_mid at (at + length bytes - at) out ys) at (at + length bytes) bytes
-copied out bytes ys at e h =
-    let n : at + length bytes - at ≡ length bytes = omega arith in
-    record {
-      size = refl;
-      room = h;
-      is = (λ i. take at out ++ (e i ++ drop (n i) (drop at out))) ∙ ap (λ z. take at out ++ (bytes ++ z)) (drop-drop (length bytes) at out);
-    }
+pub writes_as : {a b : Pen} {xs ys : List ℕ} → Writes a b xs → xs ≡ ys → Writes a b ys
+writes_as {a} {b} w e = subst (Writes a b) e w
 
--- the output so far, where what is left to put is the bytes of the list from i on
-pub record Putting {X : Type 0} (f : X → List ℕ) (xs : List X) (i : ℕ) (before out : List ℕ) (at next : ℕ) : Type 0 where
-  pub room : next + length (flat_map f (drop i xs)) ≤ length out
-  pub whole : (last : List ℕ) (end : ℕ) → Put out last next end (flat_map f (drop i xs)) → Put before last at end (flat_map f xs)
+-- the next of a list, whose first i are written
+pub room_here : {X : Type 0} (f : X → List ℕ) (xs : List X) (i : ℕ) (x : X) {before now : Pen} → i < length xs → x ≡ get_or xs i x → HasRoom before (flat_map f xs) → Writes before now (flat_map f (take i xs)) → HasRoom now (f x)
+room_here f xs i x h e room w =
+    omega (arith, length-flat_map-take f xs i x h, ap (λ z. length (f z)) e, w.put.size, put_length w.put)
 
-pub putting_begins : {X : Type 0} (f : X → List ℕ) (xs : List X) (out : List ℕ) (at : ℕ) → at + length (flat_map f xs) ≤ length out → Putting f xs 0 out out at at
-putting_begins f xs out at h = record { room = h; whole = λ last end p. p }
-
-pub room_here : {X : Type 0} (f : X → List ℕ) (xs : List X) (i : ℕ) (before out : List ℕ) (at next : ℕ) (d : X) → Putting f xs i before out at next → i < length xs → next + length (f (get_or xs i d)) ≤ length out
-room_here f xs i before out at next d w h =
-    omega (arith, w.room, ap (λ z. length (flat_map f z)) (drop_more xs i d h), length-append (f (get_or xs i d)) (flat_map f (drop (i + 1) xs)))
-
-pub puts_on : {X : Type 0} (f : X → List ℕ) (xs : List X) (i : ℕ) (before out after : List ℕ) (at next end : ℕ) (d : X) → Putting f xs i before out at next → i < length xs → Put out after next end (f (get_or xs i d)) → Putting f xs (i + 1) before after at end
-puts_on f xs i before out after at next end d w h p =
-    let more = ap (flat_map f) (drop_more xs i d h) in
-    record {
-      room = omega (arith, w.room, ap length more, length-append (f (get_or xs i d)) (flat_map f (drop (i + 1) xs)), p.size, put_length p);
-      whole = λ last far q. w.whole last far (subst (Put out last next far) (sym more) (put_then p q));
-    }
-
-pub put_all : {X : Type 0} (f : X → List ℕ) (xs : List X) (i : ℕ) (before out : List ℕ) (at next : ℕ) → Putting f xs i before out at next → length xs ≤ i → Put before out at next (flat_map f xs)
-put_all f xs i before out at next w h =
-    let none = ap (flat_map f) (drop_all i xs h) in
-    w.whole out next (subst (Put out out next next) (sym none) (put_none out next (omega (arith, w.room))))
-
-pub joined_map : {X Y : Type 0} (f : Y → List ℕ) (g : X → Y) (xs : List X) → flat_map (λ x. f (g x)) xs ≡ flat_map f (map g xs)
-joined_map f g [] = refl
-joined_map f g (x ∷ xs) = ap (λ z. f (g x) ++ z) (joined_map f g xs)
+pub writes_on : {X : Type 0} (f : X → List ℕ) (xs : List X) (i : ℕ) (x : X) {before now after : Pen} → i < length xs → x ≡ get_or xs i x → Writes before now (flat_map f (take i xs)) → Writes now after (f x) → Writes before after (flat_map f (take (i + 1) xs))
+writes_on f xs i x h e w v =
+    writes_as (writes_then w v) (flat_map_more f [] (take i xs) x ∙ ap (flat_map f) (ap (λ z. take i xs ++ z ∷ []) e ∙ sym (take_more xs i x h)))
 
 pub atoms_size : (atoms : List Atom) → length (atoms_bytes atoms) ≡ 2 * length atoms
 atoms_size [] = refl
@@ -97,3 +73,17 @@ variables_size (n ∷ more) = omega (arith, variables_size more)
 pub book_parts : (b : Bench) → length (print b) ≡ 5 * length b.sizes + (length (flat_map action_bytes b.actions) + (5 + 2 * length b.goal))
 book_parts b =
     omega (arith, length-append (flat_map variable_bytes b.sizes) (flat_map action_bytes b.actions ++ goal_bytes b.goal), length-append (flat_map action_bytes b.actions) (goal_bytes b.goal), variables_size b.sizes, atoms_size b.goal)
+
+-- the records of actions
+pub actions_said : (actions : List Action) → flat_map (λ a. action_bytes (act_of a)) actions ≡ flat_map action_bytes (map act_of actions)
+actions_said actions = sym (flat_map-map action_bytes act_of actions)
+
+pub actions_length : (actions : List Action) → length (flat_map action_bytes (map act_of actions)) ≡ sum_by (λ a. length (action_bytes (act_of a))) actions
+actions_length actions = ap length (sym (actions_said actions)) ∙ length-flat_map (λ a. action_bytes (act_of a)) actions
+
+pub actions_limit : (actions : List Action) → sum_by (λ a. length (action_bytes (act_of a))) actions ≤ length actions * 76
+actions_limit [] = omega arith
+actions_limit (a ∷ more) = sum_by-le (λ b. length (action_bytes (act_of b))) 76 (a ∷ more) (All-from_get_or (λ b. length (action_bytes (act_of b)) ≤ 76) (a ∷ more) a (λ i _. small (get_or (a ∷ more) i a)))
+  where
+    small : (b : Action) → length (action_bytes (act_of b)) ≤ 76
+    small b = omega (arith, body_size (act_of b), few_listed b.conditions, few_listed b.effects)

@@ -1,16 +1,19 @@
 -- A book, record by record.
-use Rattle.std.proofs.Common.{◌≡◌, ℕ, zero, suc, ◌+◌, ◌-◌, ◌<◌, ◌≤◌, List, [], ◌∷◌, length, take, drop, Ok, Err, Result, sym, refl, ap, ◌∙◌, subst, arith, length-drop}
-use Rattle.std.proofs.lemmas.List.{take_rest}
+use Rattle.std.proofs.Common.{◌≡◌, ℕ, zero, suc, ◌+◌, ◌-◌, ◌<◌, ◌≤◌, List, [], ◌∷◌, length, drop, Some, Ok, Err, Result, sym, refl, ap, ◌∙◌, subst, arith, length-drop}
+use Rattle.std.specs.List.{between}
 use Rattle.task.specs.declared.refusal.Refusal.{Refusal}
 use Rattle.task.specs.declared.data.Task.{Task}
 use Rattle.task.specs.Benches.{Bench}
 use Rattle.task.specs.declared.refusal.Fault.TheVariants.{NoGoal}
 use Rattle.task.specs.Refusals.{refuse}
+use Rattle.book.specs.declared.records.Raw.{Raw}
+use Rattle.book.specs.declared.records.Records.{Records}
 use Rattle.book.specs.declared.Stage.{Stage}
 use Rattle.book.specs.declared.Stage.TheVariants as stage
 use Rattle.book.specs.declared.Seen.{Seen}
-use Rattle.book.specs.Format.{and_then, Reading, reading, step_of, run, start, finished, parse}
-use Rattle.book.specs.Reader.{Agree, Outline, Stepped}
+use Rattle.book.specs.Records.{head_of, FirstRecord, Handed}
+use Rattle.book.specs.Format.{and_then, Reading, reading, after_record, step_of, run, start, finished, parse}
+use Rattle.book.specs.Reader.{Agree, Outline, Seeing}
 
 -- the records before these bytes, which stand at `at`, gave the reading
 pub record Walk (book bytes : List ℕ) (at : ℕ) (σ : Reading) : Type 0 where
@@ -19,8 +22,14 @@ pub record Walk (book bytes : List ℕ) (at : ℕ) (σ : Reading) : Type 0 where
   pub same : run (length book) start book 0 ≡ run fuel σ bytes at
   pub place : at + length bytes ≡ length book
 
-pub begins : (book : List ℕ) → Walk book book 0 start
-begins book = record { fuel = length book; enough = omega arith; same = refl; place = omega arith }
+pub begins : (book bytes : List ℕ) (at : ℕ) (σ : Reading) → bytes ≡ book → at ≡ 0 → σ ≡ start → Walk book bytes at σ
+begins book bytes at σ left none e =
+    record {
+      fuel = length book;
+      enough = omega (arith, ap length left);
+      same = λ i. run (length book) (sym e i) (sym left i) (sym none i);
+      place = omega (arith, ap length left);
+    }
 
 -- a run over one more record
 pub record More (fuel : ℕ) (σ : Reading) (bytes : List ℕ) (at : ℕ) : Type 0 where
@@ -68,25 +77,56 @@ pub record Surveyed (book bytes : List ℕ) (at : ℕ) (seen : Seen) : Type 0 wh
   pub walk : Walk book bytes at (reading seen.stage bench)
   pub outline : Outline seen.task bench
 
-pub surveys : (book bytes : List ℕ) (at : ℕ) (seen after : Seen) (size : ℕ) → (s : Surveyed book bytes at seen) → 0 < length bytes → Agree Stepped (Ok (after, size)) (step_of (reading seen.stage s.bench) bytes at) → 4 ≤ size → size ≤ length bytes → Surveyed book (take (length bytes - size) (drop size bytes)) (at + size) after
-surveys book bytes at seen after size s k g far within = rw take_rest (go (step_of (reading seen.stage s.bench) bytes at) refl g)
-  where
-    go : (x : Result (Reading × ℕ) Refusal) → x ≡ step_of (reading seen.stage s.bench) bytes at → Agree Stepped (Ok (after, size)) x → Surveyed book (drop size bytes) (at + size) after
-    go (Err f) e r = absurd r
-    go (Ok p) e r =
-        let w = goes book bytes at (reading seen.stage s.bench) p.0 size s.walk k ((λ i. Ok (p.0, r.size i)) ∙ e) far within in
-        record {
-          bench = p.0.bench;
-          walk = subst (λ z. Walk book (drop size bytes) (at + size) (reading z p.0.bench)) (sym r.stage) w;
-          outline = r.outline;
-        }
+-- what is handed on is a record or a refusal
+a_record : (now next : Records) (x : Result Raw Refusal) (raw : Raw) → Handed now (Some x) next → x ≡ Ok raw → (0 < length now.left.now) × FirstRecord now raw next
+a_record now next x raw h e = subst (λ z. Handed now (Some z) next) e h
 
-pub fails : (book bytes : List ℕ) (at : ℕ) (seen : Seen) (e : Refusal) → (s : Surveyed book bytes at seen) → 0 < length bytes → Agree Stepped (Err e) (step_of (reading seen.stage s.bench) bytes at) → Agree Outline (Err e) (parse book)
-fails book bytes at seen e s k g = go (step_of (reading seen.stage s.bench) bytes at) refl g
+a_refusal : (now next : Records) (x : Result Raw Refusal) (e : Refusal) → Handed now (Some x) next → x ≡ Err e → (0 < length now.left.now) × (Err e ≡ head_of now.left.now now.at) × (length next.left.now ≡ 0)
+a_refusal now next x e h k = subst (λ z. Handed now (Some z) next) k h
+
+pub some_left : (now next : Records) (x : Result Raw Refusal) → Handed now (Some x) next → 0 < length now.left.now
+some_left now next (Ok raw) h = h.0
+some_left now next (Err e) h = h.0
+
+-- a step, where the first record is known
+one_step : (σ : Reading) (now next : Records) (raw : Raw) (f : FirstRecord now raw next) → step_of σ now.left.now now.at ≡ and_then (after_record σ raw.kind raw.body.now raw.at) (λ τ. Ok (τ, 4 + f.head.size))
+one_step σ now next raw f =
+    ap (λ z. and_then z (λ h. and_then (after_record σ h.kind (between 4 (4 + h.size) now.left.now) now.at) (λ τ. Ok (τ, 4 + h.size)))) (sym f.is_head)
+    ∙ (λ i. and_then (after_record σ (sym f.kind i) (sym f.body i) (sym f.place i)) (λ τ. Ok (τ, 4 + f.head.size)))
+
+pub surveys : (book : List ℕ) (seen after : Seen) (now next : Records) (x : Result Raw Refusal) (raw : Raw) (s : Surveyed book now.left.now now.at seen) → Handed now (Some x) next → x ≡ Ok raw → Agree Seeing (Ok after) (after_record (reading seen.stage s.bench) raw.kind raw.body.now raw.at) → Surveyed book next.left.now next.at after
+surveys book seen after now next x raw s handed is g =
+    let r = a_record now next x raw handed is in
+    go r.0 r.1 (after_record (reading seen.stage s.bench) raw.kind raw.body.now raw.at) refl g
   where
-    go : (x : Result (Reading × ℕ) Refusal) → x ≡ step_of (reading seen.stage s.bench) bytes at → Agree Stepped (Err e) x → Agree Outline (Err e) (parse book)
-    go (Ok p) h r = absurd r
-    go (Err f) h r = subst (Agree Outline (Err e)) (stops book bytes at (reading seen.stage s.bench) f s.walk k h) r
+    go : 0 < length now.left.now → FirstRecord now raw next → (y : Result Reading Refusal) → y ≡ after_record (reading seen.stage s.bench) raw.kind raw.body.now raw.at → Agree Seeing (Ok after) y → Surveyed book next.left.now next.at after
+    go k f (Err e) h r = absurd r
+    go k f (Ok τ) h r =
+        let size : ℕ = 4 + f.head.size in
+        let σ : Reading = reading seen.stage s.bench in
+        let w = goes book now.left.now now.at σ τ size s.walk k (ap (λ z. and_then z (λ υ. Ok (υ, size))) h ∙ sym (one_step σ now next raw f)) (omega arith) f.within in
+        let v : Walk book next.left.now next.at τ = subst (λ z. Walk book z next.at τ) (sym f.left) (subst (λ n. Walk book (drop size now.left.now) n τ) (sym f.on) w) in
+        record { bench = τ.bench; walk = subst (λ z. Walk book next.left.now next.at (reading z τ.bench)) (sym r.stage) v; outline = r.outline }
+
+-- the refusal of a head, and of the record after it
+pub head_fails : (book : List ℕ) (seen : Seen) (now next : Records) (x : Result Raw Refusal) (e : Refusal) → Surveyed book now.left.now now.at seen → Handed now (Some x) next → x ≡ Err e → Agree Outline (Err e) (parse book)
+head_fails book seen now next x e s handed is =
+    let r = a_refusal now next x e handed is in
+    let σ : Reading = reading seen.stage s.bench in
+    let step : Err e ≡ step_of σ now.left.now now.at = ap (λ z. and_then z (λ h. and_then (after_record σ h.kind (between 4 (4 + h.size) now.left.now) now.at) (λ τ. Ok (τ, 4 + h.size)))) r.1 in
+    subst (Agree Outline (Err e)) (stops book now.left.now now.at σ e s.walk r.0 step) refl
+
+pub record_fails : (book : List ℕ) (seen : Seen) (now next : Records) (x : Result Raw Refusal) (raw : Raw) (e : Refusal) (s : Surveyed book now.left.now now.at seen) → Handed now (Some x) next → x ≡ Ok raw → Agree Seeing (Err e) (after_record (reading seen.stage s.bench) raw.kind raw.body.now raw.at) → Agree Outline (Err e) (parse book)
+record_fails book seen now next x raw e s handed is g =
+    let r = a_record now next x raw handed is in
+    go r.0 r.1 (after_record (reading seen.stage s.bench) raw.kind raw.body.now raw.at) refl g
+  where
+    go : 0 < length now.left.now → FirstRecord now raw next → (y : Result Reading Refusal) → y ≡ after_record (reading seen.stage s.bench) raw.kind raw.body.now raw.at → Agree Seeing (Err e) y → Agree Outline (Err e) (parse book)
+    go k f (Ok τ) h r = absurd r
+    go k f (Err d) h r =
+        let σ : Reading = reading seen.stage s.bench in
+        let step : Err d ≡ step_of σ now.left.now now.at = ap (λ z. and_then z (λ υ. Ok (υ, 4 + f.head.size))) h ∙ sym (one_step σ now next raw f) in
+        subst (Agree Outline (Err e)) (stops book now.left.now now.at σ d s.walk k step) r
 
 pub closes : (book bytes : List ℕ) (at : ℕ) (seen : Seen) (s : Surveyed book bytes at seen) → length bytes ≡ 0 → (r : Result Task Refusal) → Agree Outline r (finished seen.stage s.bench (length book)) → Agree Outline r (parse book)
 closes book bytes at seen s h r g = subst (Agree Outline r) (ends book bytes at (reading seen.stage s.bench) s.walk h) g

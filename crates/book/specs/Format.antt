@@ -36,6 +36,11 @@ atoms_fault sizes floor (a ∷ more) =
     (cond (nat_le floor a.variable) (atoms_fault sizes (a.variable + 1) more) (Some NotRising))
     (Some OutsideBench)
 
+-- nothing, or the fault
+abbrev pub or_fault : Option Fault → Result (Unit {0}) Fault
+or_fault None = Ok tt
+or_fault (Some f) = Err f
+
 -- an effect is one of the conditions
 abbrev pub repeating : List Atom → List Atom → Bool
 repeating conditions effects = some_atom (λ e. some_atom (alike e) conditions) effects
@@ -99,13 +104,18 @@ pub record Reading : Type 0 where
 abbrev pub reading : Stage → Bench → Reading
 reading s b = record { stage = s; bench = b }
 
+-- the reading after a record of the kind with this body
+abbrev pub after_record : Reading → Kind → List ℕ → ℕ → Result Reading Refusal
+after_record σ k body at =
+    and_then (or_refuse (stage_after σ.stage k) OutOfPlace at) (λ s.
+    and_then (parts_of k body at) (λ p.
+    and_then (admitted σ.bench p at) (λ b. Ok (reading s b))))
+
 -- the reading after the record that stands first in the bytes, and how many bytes it takes
 abbrev pub step_of : Reading → List ℕ → ℕ → Result (Reading × ℕ) Refusal
 step_of σ bytes at =
     and_then (head_of bytes at) (λ h.
-    and_then (or_refuse (stage_after σ.stage h.kind) OutOfPlace at) (λ s.
-    and_then (parts_of h.kind (between 4 (4 + h.size) bytes) at) (λ p.
-    and_then (admitted σ.bench p at) (λ b. Ok (reading s b, 4 + h.size)))))
+    and_then (after_record σ h.kind (between 4 (4 + h.size) bytes) at) (λ τ. Ok (τ, 4 + h.size)))
 
 -- the reading after the records of the bytes, which are at most as many as the first number
 unfoldable pub run : ℕ → Reading → List ℕ → ℕ → Result Reading Refusal

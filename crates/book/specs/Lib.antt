@@ -1,3 +1,4 @@
+pub mod Atoms
 pub mod Records
 pub mod Format
 pub mod Reader

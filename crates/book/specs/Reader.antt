@@ -24,11 +24,10 @@ pub record Outline (task : Task) (b : Bench) : Type 0 where
   pub actions : task.actions ≡ length b.actions
   pub goal : listed task.goal ≡ b.goal
 
--- what is seen of a reading, and how many bytes were read
-pub record Stepped (x : Seen × ℕ) (y : Reading × ℕ) : Type 0 where
-  pub stage : x.0.stage ≡ y.0.stage
-  pub outline : Outline x.0.task y.0.bench
-  pub size : x.1 ≡ y.1
+-- what is seen of a reading
+pub record Seeing (x : Seen) (y : Reading) : Type 0 where
+  pub stage : x.stage ≡ y.stage
+  pub outline : Outline x.task y.bench
 
 -- the actions that a record says, one or none
 abbrev pub acts_in : Parts → List Act

@@ -7,6 +7,7 @@ use Rattle.task.specs.declared.refusal.Refusal.{Refusal}
 use Rattle.task.specs.Settings.{listed}
 use Rattle.task.specs.Benches.{Bench, Lawful, act_of, bench_of}
 use Rattle.task.specs.Refusals.{refuse}
+use Rattle.book.specs.declared.writer.Pen.{Pen}
 use Rattle.book.specs.Format.{parse}
 use Rattle.book.specs.Print.{print}
 
@@ -15,6 +16,15 @@ pub record Put (before after : List ℕ) (at next : ℕ) (bytes : List ℕ) : Ty
   pub size : next ≡ at + length bytes
   pub room : next ≤ length before
   pub is : after ≡ take at before ++ (bytes ++ drop next before)
+
+-- the pen has room for the bytes
+abbrev pub HasRoom : Pen → List ℕ → Type 0
+HasRoom pen bytes = pen.at + length bytes ≤ length pen.out.now
+
+-- the pen has written the bytes, and its output is still the one that it was lent
+pub record Writes (before after : Pen) (bytes : List ℕ) : Type 0 where
+  pub same : after.out.ghost_name ≡ before.out.ghost_name
+  pub put : Put before.out.now after.out.now before.at after.at bytes
 
 -- the bench of a task with exactly these actions
 abbrev pub bench_with : Task → List Action → Bench

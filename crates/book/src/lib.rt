@@ -2,25 +2,29 @@
 #![tactic(auto)]
 
 ghost use Rattle.std.specs.Prelude.{◌≡◌, ◌+◌, ◌≤◌, ◌++◌, map, length, take, drop, IfOk, Some, None, Ok};
-ghost use Rattle.task.specs.Settings.{listed, some_atom};
-ghost use Rattle.task.specs.Benches.{Bench, Lawful, act_of, alike, bench_of};
-ghost use Rattle.book.specs.Records.{atoms_in, act_in, shown, offset};
-ghost use Rattle.book.specs.Format.{stage_after, or_refuse, atoms_fault, repeating, act_fault, variable_fault, crowding, fault_in, grown, admitted, reading, step_of, parse, parse_into};
+ghost use Rattle.task.specs.Settings.{listed};
+ghost use Rattle.task.specs.Benches.{Bench, Lawful, act_of, bench_of};
+ghost use Rattle.book.specs.Atoms.{atoms_in};
+ghost use Rattle.book.specs.Records.{act_spelled, shown, offset};
+ghost use Rattle.book.specs.Format.{stage_after, or_fault, atoms_fault, repeating, act_fault, variable_fault, crowding, fault_in, grown, admitted, reading, after_record, parse, parse_into};
 ghost use Rattle.book.specs.Print.{print};
-ghost use Rattle.book.specs.Reader.{Stepped, Agree, Outline, acts_in, Limited, LimitedAct, Filled, Fits, Holds, Kept};
+ghost use Rattle.book.specs.Reader.{Seeing, Agree, Outline, acts_in, Limited, LimitedAct, Filled, Fits, Holds, Kept};
 
-use task::{Action, Atom, Atoms, Fault, Refusal, Task};
+use task::{Action, Atoms, Fault, Refusal, Task};
 
+mod atoms;
 mod records;
 mod writer;
 
-use records::{Kind, Record, head_of, place_of, record_of};
+use atoms::AtomsIn;
+use records::{Kind, Raw, Record, Records, SpelledAction};
 pub use writer::write;
 
 // What may stand next: the first variable; a variable, an action or the goal; an action or the goal;
 // nothing.
-#[derive(Clone, Copy)]
+#[derive(Clone, Copy, PartialEq, Eq, Debug, Default)]
 enum Stage {
+    #[default]
     Variables,
     Actions,
     Goal,
@@ -28,189 +32,124 @@ enum Stage {
 }
 
 // What the records so far have said, but for the actions themselves.
-#[derive(Clone, Copy)]
+#[derive(Clone, Copy, PartialEq, Eq, Debug)]
 struct Seen {
     stage: Stage,
     task: Task,
 }
 
 // The stage after a record of the kind, where one may stand.
-fn follow(stage: Stage, kind: Kind, at: usize) -> Result<Stage, Refusal>
-    ensures { result ≡ or_refuse (stage_after stage kind) Fault.OutOfPlace at }
+fn follow(stage: Stage, kind: Kind) -> Option<Stage>
+    ensures { result ≡ stage_after stage kind }
 {
     match (stage, kind) {
-        (Stage::Variables | Stage::Actions, Kind::Variable) => Ok(Stage::Actions),
-        (Stage::Actions | Stage::Goal, Kind::Action) => Ok(Stage::Goal),
-        (Stage::Actions | Stage::Goal, Kind::Goal) => Ok(Stage::Done),
-        _ => Err(Refusal {
-            fault: Fault::OutOfPlace,
-            place: at,
-        }),
+        (Stage::Variables | Stage::Actions, Kind::Variable) => Some(Stage::Actions),
+        (Stage::Actions | Stage::Goal, Kind::Action) => Some(Stage::Goal),
+        (Stage::Actions | Stage::Goal, Kind::Goal) => Some(Stage::Done),
+        _ => None,
     }
 }
 
-// How many atoms the bytes hold.
-fn atom_count(atoms: &[u8]) -> usize
-    ensures { result ≡ length (atoms_in atoms.now) }
+// Atoms are of the bench, and their variables rise.
+fn check_atoms(atoms: AtomsIn<'_>, sizes: &[u8]) -> Result<(), Fault>
+    ensures { result ≡ or_fault (atoms_fault sizes.now 0 (atoms_in atoms.entry.bytes.now)) }
 {
-    atoms.len() / 2
-}
-
-// The first fault of atoms: one outside the bench, or variables that do not rise.
-fn atoms_fault(atoms: &[u8], sizes: &[u8]) -> Option<Fault>
-    ensures { result ≡ atoms_fault sizes.now 0 (atoms_in atoms.now) }
-{
-    let mut floor: usize = 0;
-    let mut left = atoms;
-    while let [variable, value, rest @ ..] = left {
-        let v = *variable as usize;
-        if v >= sizes.len() || *value >= sizes[v] {
-            return Some(Fault::OutsideBench);
+    let mut floor = 0;
+    for atom in atoms {
+        let variable = atom.variable as usize;
+        if atom.value >= sizes.get(variable).copied().unwrap_or(0) {
+            return Err(Fault::OutsideBench);
         }
-        if v < floor {
-            return Some(Fault::NotRising);
+        if variable < floor {
+            return Err(Fault::NotRising);
         }
-        floor = v + 1;
-        left = rest;
+        floor = variable + 1;
     }
-    None
-}
-
-// Are the atoms the same?
-fn same(a: Atom, b: Atom) -> bool
-    ensures { result ≡ alike a b }
-{
-    a.variable == b.variable && a.value == b.value
-}
-
-// Is the atom among those that the bytes hold?
-fn among(atom: Atom, atoms: &[u8]) -> bool
-    ensures { result ≡ some_atom (alike atom) (atoms_in atoms.now) }
-{
-    let mut left = atoms;
-    while let [variable, value, rest @ ..] = left {
-        let other = Atom {
-            variable: *variable,
-            value: *value,
-        };
-        if same(atom, other) {
-            return true;
-        }
-        left = rest;
-    }
-    false
+    Ok(())
 }
 
 // Does an effect repeat a condition?
-fn repeats(conditions: &[u8], effects: &[u8]) -> bool
-    ensures { result ≡ repeating (atoms_in conditions.now) (atoms_in effects.now) }
+fn repeats(conditions: AtomsIn<'_>, mut effects: AtomsIn<'_>) -> bool
+    ensures { result ≡ repeating (atoms_in conditions.entry.bytes.now) (atoms_in effects.entry.bytes.now) }
 {
-    let mut left = effects;
-    while let [variable, value, rest @ ..] = left {
-        let effect = Atom {
-            variable: *variable,
-            value: *value,
-        };
-        if among(effect, conditions) {
-            return true;
-        }
-        left = rest;
-    }
-    false
+    effects.any(|effect| conditions.contains(effect))
 }
 
-// The first fault of an action within the counts.
-fn act_fault(
-    sizes: &[u8],
-    tenths: u32,
-    presses: u16,
-    conditions: &[u8],
-    effects: &[u8],
-) -> Option<Fault>
-    ensures { result ≡ act_fault sizes.now (act_in tenths presses conditions.now effects.now) }
+// An action within the counts is within the limits, and its atoms are in order.
+fn check_action(action: SpelledAction<'_>, sizes: &[u8]) -> Result<(), Fault>
+    ensures { result ≡ or_fault (act_fault sizes.now (act_spelled action.entry)) }
 {
+    let SpelledAction {
+        tenths,
+        presses,
+        conditions,
+        effects,
+    } = action;
     if tenths > 1_000_000 || presses > 1_000 {
-        return Some(Fault::OverLimit);
+        return Err(Fault::OverLimit);
     }
-    if atom_count(effects) == 0 {
-        return Some(Fault::NoEffect);
+    if effects.len() == 0 {
+        return Err(Fault::NoEffect);
     }
-    if let Some(fault) = atoms_fault(conditions, sizes) {
-        return Some(fault);
-    }
-    if let Some(fault) = atoms_fault(effects, sizes) {
-        return Some(fault);
-    }
+    check_atoms(conditions, sizes)?;
+    check_atoms(effects, sizes)?;
     if repeats(conditions, effects) {
-        return Some(Fault::RepeatsCondition);
+        return Err(Fault::RepeatsCondition);
     }
-    None
+    Ok(())
 }
 
-// The fault of a variable with so many values, after so many others.
-fn variable_fault(count: usize, values: u8) -> Option<Fault>
-    ensures { result ≡ variable_fault count values }
+// There is room for a variable after so many others, and its number of values is within the limits.
+fn check_variable(count: usize, values: u8) -> Result<(), Fault>
+    ensures { result ≡ or_fault (variable_fault count values) }
 {
     if count >= 64 {
-        return Some(Fault::TooMany);
+        return Err(Fault::TooMany);
     }
-    if values < 1 || values > 32 {
-        return Some(Fault::ValueCount);
+    if !(1..=32).contains(&values) {
+        return Err(Fault::ValueCount);
     }
-    None
+    Ok(())
 }
 
 // Is there no room for another action, or has it too many conditions or effects?
-fn crowded(count: usize, conditions: &[u8], effects: &[u8]) -> bool
-    ensures { result ≡ crowding count (atoms_in conditions.now) (atoms_in effects.now) }
+fn crowded(count: usize, action: SpelledAction<'_>) -> bool
+    ensures { result ≡ crowding count (act_spelled action.entry).conditions (act_spelled action.entry).effects }
 {
-    count >= 1024 || atom_count(conditions) > 16 || atom_count(effects) > 16
+    count >= 1024 || action.conditions.len() > 16 || action.effects.len() > 16
 }
 
 // The numbers of values of the task's variables.
 fn sizes_of(task: &Task) -> &[u8]
     ensures { result.now ≡ take task.now.variables task.now.sizes }
 {
-    let all = &task.sizes[..];
-    &all[0..task.variables]
+    &task.sizes[..task.variables]
 }
 
-// The first fault of what a record says, after what the task has.
-fn fault_in(task: &Task, part: Record<'_>) -> Option<Fault>
-    ensures { result ≡ fault_in (take task.now.variables task.now.sizes) task.now.actions (shown part.entry) }
+// What a record says may follow what the task has.
+fn check(task: &Task, part: Record<'_>) -> Result<(), Fault>
+    ensures { result ≡ or_fault (fault_in (take task.now.variables task.now.sizes) task.now.actions (shown part.entry)) }
 {
     let sizes = sizes_of(task);
     match part {
-        Record::Variable { values, .. } => variable_fault(task.variables, values),
-        Record::Action {
-            tenths,
-            presses,
-            conditions,
-            effects,
-            ..
-        } => {
-            if crowded(task.actions, conditions, effects) {
-                return Some(Fault::TooMany);
+        Record::Variable { values, .. } => check_variable(task.variables, values),
+        Record::Action { action, .. } => {
+            if crowded(task.actions, action) {
+                return Err(Fault::TooMany);
             }
-            act_fault(sizes, tenths, presses, conditions, effects)
+            check_action(action, sizes)
         }
-        Record::Goal { atoms, .. } => atoms_fault(atoms, sizes),
+        Record::Goal { atoms, .. } => check_atoms(atoms, sizes),
     }
 }
 
 // The atoms that the bytes hold, as many as fit.
-fn atoms_of<const N: usize>(bytes: &[u8]) -> Atoms<N>
-    ensures { length (atoms_in bytes.now) ≤ N → listed result ≡ atoms_in bytes.now }
+fn atoms_of<const N: usize>(spelled: AtomsIn<'_>) -> Atoms<N>
+    ensures { length (atoms_in spelled.entry.bytes.now) ≤ N → listed result ≡ atoms_in spelled.entry.bytes.now }
 {
     let mut atoms = Atoms::<N>::none();
-    let mut left = bytes;
-    while let [variable, value, rest @ ..] = left {
-        let atom = Atom {
-            variable: *variable,
-            value: *value,
-        };
+    for atom in spelled {
         let _ = atoms.push(atom);
-        left = rest;
     }
     atoms
 }
@@ -240,25 +179,19 @@ fn grow(task: Task, part: Record<'_>) -> Task
 fn admit(task: Task, part: Record<'_>) -> Result<Task, Refusal>
     ensures { (b : Bench) → Outline task b → Agree Outline result (admitted b (shown part.entry) (offset part.entry)) }
 {
-    match fault_in(&task, part) {
-        Some(fault) => Err(Refusal {
-            fault,
-            place: place_of(part),
-        }),
-        None => Ok(grow(task, part)),
-    }
+    let place = part.place();
+    check(&task, part).map_err(|fault| fault.at(place))?;
+    Ok(grow(task, part))
 }
 
-// What is seen after the record that stands first in the bytes, and how many bytes it takes.
-fn step(bytes: &[u8], at: usize, seen: Seen) -> Result<(Seen, usize), Refusal>
-    ensures value { (b : Bench) → Outline seen.task b → Agree Stepped result (step_of (reading seen.stage b) bytes.now at) }
-    ensures bound { IfOk result (λ p. (4 ≤ p.1) × (p.1 ≤ length bytes.now)) }
+// What is seen after one more record.
+fn step(seen: Seen, raw: Raw<'_>) -> Result<Seen, Refusal>
+    ensures { (b : Bench) → Outline seen.task b → Agree Seeing result (after_record (reading seen.stage b) raw.entry.kind raw.entry.body.now raw.entry.at) }
 {
-    let head = head_of(bytes, at)?;
-    let stage = follow(seen.stage, head.kind, at)?;
-    let part = record_of(head.kind, &bytes[4..4 + head.size], at)?;
+    let stage = follow(seen.stage, raw.kind).ok_or(Fault::OutOfPlace.at(raw.at))?;
+    let part = raw.read()?;
     let task = admit(seen.task, part)?;
-    Ok((Seen { stage, task }, 4 + head.size))
+    Ok(Seen { stage, task })
 }
 
 // The book's task, or the refusal of its first faulty record.
@@ -266,7 +199,7 @@ fn survey(book: &[u8]) -> Result<Task, Refusal>
     ensures { Agree Outline result (parse book.now) }
 {
     let mut seen = Seen {
-        stage: Stage::Variables,
+        stage: Stage::default(),
         task: Task {
             variables: 0,
             sizes: [0; 64],
@@ -274,33 +207,25 @@ fn survey(book: &[u8]) -> Result<Task, Refusal>
             goal: Atoms::<64>::none(),
         },
     };
-    let mut left = book;
-    let mut at = 0;
-    while !left.is_empty() {
-        let (after, size) = step(left, at, seen)?;
-        seen = after;
-        left = &left[size..];
-        at += size;
+    for raw in Records::of(book) {
+        seen = step(seen, raw?)?;
     }
     match seen.stage {
         Stage::Done => Ok(seen.task),
-        _ => Err(Refusal {
-            fault: Fault::NoGoal,
-            place: book.len(),
-        }),
+        _ => Err(Fault::NoGoal.at(book.len())),
     }
 }
 
-// An action with these numbers and the atoms that the bytes hold.
-fn action_from(tenths: u32, presses: u16, conditions: &[u8], effects: &[u8]) -> Action
-    requires { LimitedAct (act_in tenths presses conditions.now effects.now) }
-    ensures { act_of result ≡ act_in tenths presses conditions.now effects.now }
+// The action that is spelled so.
+fn action_of(spelled: SpelledAction<'_>) -> Action
+    requires { LimitedAct (act_spelled spelled) }
+    ensures { act_of result ≡ act_spelled spelled.entry }
 {
     Action {
-        tenths,
-        presses,
-        conditions: atoms_of(conditions),
-        effects: atoms_of(effects),
+        tenths: spelled.tenths,
+        presses: spelled.presses,
+        conditions: atoms_of(spelled.conditions),
+        effects: atoms_of(spelled.effects),
     }
 }
 
@@ -312,17 +237,10 @@ fn put(actions: &mut [Action], count: usize, part: Record<'_>) -> usize
     ensures first { map act_of (take result actions.new) ≡ map act_of (take count actions.old) ++ acts_in (shown part.entry) }
     ensures rest { drop result actions.new ≡ drop result actions.old }
 {
-    let Record::Action {
-        tenths,
-        presses,
-        conditions,
-        effects,
-        ..
-    } = part
-    else {
+    let Record::Action { action, .. } = part else {
         return count;
     };
-    actions[count] = action_from(tenths, presses, conditions, effects);
+    actions[count] = action_of(action);
     count + 1
 }
 
@@ -331,19 +249,13 @@ fn fill(book: &[u8], actions: &mut [Action])
     requires { Fits book.now (length actions.old) }
     ensures { (b : Bench) → parse book.now ≡ Ok b → Filled actions.old actions.new b.actions }
 {
-    let mut left = book;
-    let mut at = 0;
+    // A counted place of the table: only a record of an action takes one.
     let mut count = 0;
-    while !left.is_empty() {
-        let Ok(head) = head_of(left, at) else {
-            return;
-        };
-        let Ok(part) = record_of(head.kind, &left[4..4 + head.size], at) else {
+    for raw in Records::of(book) {
+        let Ok(part) = raw.and_then(Raw::read) else {
             return;
         };
         count = put(actions, count, part);
-        left = &left[4 + head.size..];
-        at += 4 + head.size;
     }
 }
 
@@ -358,10 +270,7 @@ pub fn read(book: &[u8], actions: &mut [Action]) -> Result<Task, Refusal>
 {
     let task = survey(book)?;
     if actions.len() < task.actions {
-        return Err(Refusal {
-            fault: Fault::ShortTable,
-            place: 1,
-        });
+        return Err(Fault::ShortTable.at(1));
     }
     fill(book, actions);
     Ok(task)

@@ -1,130 +1,133 @@
 // Writes a bench book from a task and its table of actions.
-ghost use Rattle.std.specs.Prelude.{◌≡◌, ◌+◌, ◌*◌, ◌≤◌, map, length, take};
+ghost use Rattle.std.specs.Prelude.{◌≡◌, ℕ, ◌+◌, ◌*◌, ◌≤◌, List, length, take, sum_by};
 ghost use Rattle.std.specs.List.{flat_map};
 ghost use Rattle.task.specs.Benches.{act_of, bench_of};
-ghost use Rattle.task.specs.Refusals.{refusal};
-ghost use Rattle.book.specs.Print.{code_of, word_bytes, head_bytes, atoms_bytes, both_bytes, variable_bytes, action_bytes, goal_bytes, print};
-ghost use Rattle.book.specs.Writer.{Put, bench_with, written, output_after, ReadsBack};
+ghost use Rattle.book.specs.Records.{action_part};
+ghost use Rattle.book.specs.Print.{word_bytes, head_bytes, atom_bytes, both_bytes, body_bytes, variable_bytes, action_bytes, goal_bytes, print};
+ghost use Rattle.book.specs.Writer.{HasRoom, Writes, bench_with, written, output_after, ReadsBack};
 
 use crate::records::Kind;
 use crate::sizes_of;
 use task::{Action, Atom, Fault, Refusal, Task};
 
-// Writes the bytes from place `at` on, and answers the place after them, as all that writes here does.
-fn put_bytes(out: &mut [u8], at: usize, bytes: &[u8]) -> usize
-    requires { at + length bytes.now ≤ length out.old }
-    ensures { Put out.old out.new at result bytes.now }
-{
-    let end = at + bytes.len();
-    out[at..end].copy_from_slice(bytes);
-    end
+// Writes into the output, from a place on.
+#[derive(Drop)]
+struct Pen<'a> {
+    out: &'a mut [u8],
+    at: usize,
 }
 
-// Writes a number of two bytes, the low one first.
-fn put_word(out: &mut [u8], at: usize, number: u16) -> usize
-    requires { at + 2 ≤ length out.old }
-    ensures { Put out.old out.new at result (word_bytes number) }
-{
-    let [low, high] = number.to_le_bytes();
-    put_bytes(out, at, &[low, high])
+// What is written as the bytes `spelling`.
+trait Spelled {
+    ghost spelling: { Self → List ℕ };
+
+    fn put(&self, pen: &mut Pen<'_>)
+        requires { HasRoom pen.old (spelling self.now) }
+        ensures { Writes pen.old pen.new (spelling self.now) };
 }
 
-// The number of the kind.
-fn code(kind: Kind) -> u16
-    ensures { result ≡ code_of kind }
-{
-    kind as u16
-}
+impl Spelled for Atom {
+    ghost spelling = { atom_bytes };
 
-// Writes the length and the kind of a record.
-fn put_head(out: &mut [u8], at: usize, kind: Kind, size: u16) -> usize
-    requires { at + 4 ≤ length out.old }
-    ensures { Put out.old out.new at result (head_bytes kind size) }
-{
-    let middle = put_word(out, at, size);
-    put_word(out, middle, code(kind))
-}
-
-fn put_atoms(out: &mut [u8], at: usize, atoms: &[Atom]) -> usize
-    requires { at + 2 * length atoms.now ≤ length out.old }
-    ensures { Put out.old out.new at result (atoms_bytes atoms.now) }
-{
-    let mut end = at;
-    for atom in atoms {
-        end = put_bytes(out, end, &[atom.variable, atom.value]);
+    fn put(&self, pen: &mut Pen<'_>) {
+        pen.bytes(&[self.variable, self.value]);
     }
-    end
 }
 
-fn put_variable(out: &mut [u8], at: usize, values: u8) -> usize
-    requires { at + 5 ≤ length out.old }
-    ensures { Put out.old out.new at result (variable_bytes values) }
-{
-    let body = put_head(out, at, Kind::Variable, 1);
-    put_bytes(out, body, &[values])
-}
+// A number of values, as the record of its variable.
+impl Spelled for u8 {
+    ghost spelling = { variable_bytes };
 
-// Writes how many conditions and effects there are, and both.
-fn put_both(out: &mut [u8], at: usize, conditions: &[Atom], effects: &[Atom]) -> usize
-    requires { (at + (2 + 2 * (length conditions.now + length effects.now)) ≤ length out.old) × (length conditions.now + length effects.now ≤ 32) }
-    ensures { Put out.old out.new at result (both_bytes conditions.now effects.now) }
-{
-    let first = put_bytes(out, at, &[conditions.len() as u8, effects.len() as u8]);
-    let second = put_atoms(out, first, conditions);
-    put_atoms(out, second, effects)
-}
-
-fn put_action(out: &mut [u8], at: usize, action: &Action) -> usize
-    requires { at + length (action_bytes (act_of action.now)) ≤ length out.old }
-    ensures { Put out.old out.new at result (action_bytes (act_of action.now)) }
-{
-    let conditions = action.conditions.list();
-    let effects = action.effects.list();
-    let size = 8 + 2 * (conditions.len() + effects.len());
-    let tenths = put_head(out, at, Kind::Action, size as u16);
-    let presses = put_bytes(out, tenths, &action.tenths.to_le_bytes());
-    let counts = put_word(out, presses, action.presses);
-    put_both(out, counts, conditions, effects)
-}
-
-fn put_goal(out: &mut [u8], at: usize, atoms: &[Atom]) -> usize
-    requires { (at + (5 + 2 * length atoms.now) ≤ length out.old) × (length atoms.now ≤ 64) }
-    ensures { Put out.old out.new at result (goal_bytes atoms.now) }
-{
-    let size = 1 + 2 * atoms.len();
-    let count = put_head(out, at, Kind::Goal, size as u16);
-    let first = put_bytes(out, count, &[atoms.len() as u8]);
-    put_atoms(out, first, atoms)
-}
-
-fn put_variables(out: &mut [u8], at: usize, sizes: &[u8]) -> usize
-    requires { at + length (flat_map variable_bytes sizes.now) ≤ length out.old }
-    ensures { Put out.old out.new at result (flat_map variable_bytes sizes.now) }
-{
-    let mut end = at;
-    for values in sizes {
-        end = put_variable(out, end, *values);
+    fn put(&self, pen: &mut Pen<'_>) {
+        pen.head(Kind::Variable, 1);
+        pen.bytes(&[*self]);
     }
-    end
 }
 
-fn put_actions(out: &mut [u8], at: usize, actions: &[Action]) -> usize
-    requires { at + length (flat_map action_bytes (map act_of actions.now)) ≤ length out.old }
-    ensures { Put out.old out.new at result (flat_map action_bytes (map act_of actions.now)) }
-{
-    let mut end = at;
-    for action in actions {
-        end = put_action(out, end, action);
+impl Spelled for Action {
+    ghost spelling = { λ action. action_bytes (act_of action) };
+
+    fn put(&self, pen: &mut Pen<'_>) {
+        pen.head(Kind::Action, body_size(self) as u16);
+        pen.bytes(&self.tenths.to_le_bytes());
+        pen.word(self.presses);
+        pen.both(self.conditions.list(), self.effects.list());
     }
-    end
 }
 
-// How many bytes the action's record takes.
-fn action_size(action: &Action) -> usize
-    ensures value { result ≡ length (action_bytes (act_of action.now)) }
-    ensures bound { result ≤ 76 }
+impl Pen<'_> {
+    fn bytes(&mut self, bytes: &[u8])
+        requires { HasRoom self.old bytes.now }
+        ensures { Writes self.old self.new bytes.now }
+    {
+        let end = self.at + bytes.len();
+        let out = &mut *self.out;
+        out[self.at..end].copy_from_slice(bytes);
+        self.at = end;
+    }
+
+    // A number of two bytes, the low one first.
+    fn word(&mut self, number: u16)
+        requires { HasRoom self.old (word_bytes number) }
+        ensures { Writes self.old self.new (word_bytes number) }
+    {
+        self.bytes(&number.to_le_bytes());
+    }
+
+    // The length and the kind of a record.
+    fn head(&mut self, kind: Kind, size: u16)
+        requires { HasRoom self.old (head_bytes kind size) }
+        ensures { Writes self.old self.new (head_bytes kind size) }
+    {
+        self.word(size);
+        self.word(u16::from(kind));
+    }
+
+    fn all<T: Spelled>(&mut self, items: &[T])
+        requires { HasRoom self.old (flat_map T.spelling items.now) }
+        ensures { Writes self.old self.new (flat_map T.spelling items.now) }
+    {
+        for item in items {
+            item.put(self);
+        }
+    }
+
+    // How many conditions and effects there are, and both.
+    fn both(&mut self, conditions: &[Atom], effects: &[Atom])
+        requires { HasRoom self.old (both_bytes conditions.now effects.now) × (length conditions.now + length effects.now ≤ 32) }
+        ensures { Writes self.old self.new (both_bytes conditions.now effects.now) }
+    {
+        self.bytes(&[conditions.len() as u8, effects.len() as u8]);
+        self.all(conditions);
+        self.all(effects);
+    }
+
+    fn goal(&mut self, atoms: &[Atom])
+        requires { HasRoom self.old (goal_bytes atoms.now) × (length atoms.now ≤ 64) }
+        ensures { Writes self.old self.new (goal_bytes atoms.now) }
+    {
+        let size = 1 + 2 * atoms.len();
+        self.head(Kind::Goal, size as u16);
+        self.bytes(&[atoms.len() as u8]);
+        self.all(atoms);
+    }
+}
+
+// How many bytes the body of the action's record takes.
+fn body_size(action: &Action) -> usize
+    ensures value { result ≡ length (body_bytes (action_part (act_of action.now))) }
+    ensures bound { result ≤ 72 }
 {
-    12 + 2 * (action.conditions.list().len() + action.effects.list().len())
+    8 + 2 * (action.conditions.list().len() + action.effects.list().len())
+}
+
+// How many bytes the actions' records take.
+fn actions_size(actions: &[Action]) -> usize
+    requires { length actions.now ≤ 1024 }
+    ensures value { result ≡ sum_by (λ action. length (action_bytes (act_of action))) actions.now }
+    ensures bound { result ≤ 77824 }
+{
+    actions.iter().map(|action| 4 + body_size(action)).sum()
 }
 
 // How many bytes the book takes.
@@ -132,27 +135,7 @@ fn book_size(task: &Task, actions: &[Action]) -> usize
     requires { length actions.now ≤ 1024 }
     ensures { result ≡ length (print (bench_with task.now actions.now)) }
 {
-    let mut size = 5 * sizes_of(task).len() + 5 + 2 * task.goal.list().len();
-    for action in actions {
-        size += action_size(action);
-    }
-    size
-}
-
-fn first_of(actions: &[Action], count: usize) -> &[Action]
-    requires { count ≤ length actions.now }
-    ensures { result.now ≡ take count actions.now }
-{
-    &actions[0..count]
-}
-
-fn short_table(table: usize) -> Refusal
-    ensures { result ≡ refusal Fault.ShortTable table }
-{
-    Refusal {
-        fault: Fault::ShortTable,
-        place: table,
-    }
+    5 * sizes_of(task).len() + actions_size(actions) + 5 + 2 * task.goal.list().len()
 }
 
 // Writes the book of a task, whose actions are the first of the table, into the first places of the output,
@@ -162,14 +145,17 @@ pub fn write(task: &Task, actions: &[Action], out: &mut [u8]) -> Result<usize, R
     ensures output { out.new ≡ output_after (print (bench_of task.now actions.now)) out.old result }
     ensures back { ReadsBack (bench_of task.now actions.now) out.new result }
 {
+    // Each number stands beside the table that it names.
     if actions.len() < task.actions {
-        return Err(short_table(1));
+        return Err(Fault::ShortTable.at(1));
     }
-    let listed = first_of(actions, task.actions);
+    let listed = &actions[..task.actions];
     if out.len() < book_size(task, listed) {
-        return Err(short_table(7));
+        return Err(Fault::ShortTable.at(7));
     }
-    let second = put_variables(out, 0, sizes_of(task));
-    let third = put_actions(out, second, listed);
-    Ok(put_goal(out, third, task.goal.list()))
+    let mut pen = Pen { out, at: 0 };
+    pen.all(sizes_of(task));
+    pen.all(listed);
+    pen.goal(task.goal.list());
+    Ok(pen.at)
 }

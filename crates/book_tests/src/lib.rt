@@ -7,81 +7,65 @@ mod maker;
 #[cfg(test)]
 mod tests {
     use crate::maker::{
-        Maker, accepted, not_written, refused, refused_after, round_trip, same_action, same_atoms,
-        spare, written,
+        Maker, accepted, not_written, parts, refused, refused_after, round_trip, same_action,
+        same_atoms, spare, written,
     };
     use book::read;
     use std::test::Fail;
 
     #[test]
     fn the_keypad_book(rt: HostRuntime) -> Result<(), Fail> {
-        let mut book = Maker::new();
-        book.add(b"\x01\x00\x01\x00\x03");
-        book.add(b"\x01\x00\x01\x00\x02");
-        book.add(b"\x01\x00\x01\x00\x02");
-        book.add(b"\x01\x00\x01\x00\x02");
-        book.add(b"\x0c\x00\x02\x00\x02\x00\x00\x00\x01\x00\x01\x01\x00\x00\x00\x01");
-        book.add(b"\x0c\x00\x02\x00\x02\x00\x00\x00\x01\x00\x01\x01\x00\x01\x00\x02");
+        let mut book = Maker::new(rt.alloc());
+        book.add(b"\x01\x00\x01\x00\x03")?;
+        book.add(b"\x01\x00\x01\x00\x02")?;
+        book.add(b"\x01\x00\x01\x00\x02")?;
+        book.add(b"\x01\x00\x01\x00\x02")?;
+        book.add(b"\x0c\x00\x02\x00\x02\x00\x00\x00\x01\x00\x01\x01\x00\x00\x00\x01")?;
+        book.add(b"\x0c\x00\x02\x00\x02\x00\x00\x00\x01\x00\x01\x01\x00\x01\x00\x02")?;
         book.add(
             b"\x10\x00\x02\x00\x05\x00\x00\x00\x01\x00\x02\x02\x00\x02\x01\x01\x00\x00\x01\x00",
-        );
+        )?;
         book.add(
             b"\x10\x00\x02\x00\x0a\x00\x00\x00\x01\x00\x03\x01\x00\x00\x01\x00\x02\x00\x02\x01",
-        );
-        book.add(b"\x0c\x00\x02\x00\x04\x00\x00\x00\x00\x00\x01\x01\x03\x00\x03\x01");
-        book.add(b"\x07\x00\x03\x00\x03\x01\x00\x02\x01\x03\x01");
+        )?;
+        book.add(b"\x0c\x00\x02\x00\x04\x00\x00\x00\x00\x00\x01\x01\x03\x00\x03\x01")?;
+        book.add(b"\x07\x00\x03\x00\x03\x01\x00\x02\x01\x03\x01")?;
         round_trip(&rt, book.bytes())?;
         let mut table = [spare(); 6];
-        match read(book.bytes(), &mut table) {
-            Ok(task) => {
-                let sizes = task.sizes;
-                assert_eq!(rt; task.variables, 4);
-                assert_eq!(rt; task.actions, 5);
-                assert_eq!(rt; sizes[0], 3);
-                assert_eq!(rt; sizes[3], 2);
-                assert_eq!(rt; sizes[4], 0);
-                assert!(rt; same_atoms(task.goal.list(), b"\x01\x00\x02\x01\x03\x01"));
-                assert!(rt; same_action(&table[0], 2, 1, b"\x00\x00", b"\x00\x01"));
-                assert!(rt; same_action(&table[1], 2, 1, b"\x00\x01", b"\x00\x02"));
-                assert!(rt; same_action(&table[2], 5, 1, b"\x00\x02\x01\x01", b"\x00\x00\x01\x00"));
-                assert!(rt;
-                    same_action(&table[3], 10, 1, b"\x00\x00\x01\x00\x02\x00", b"\x02\x01")
-                );
-                assert!(rt; same_action(&table[4], 4, 0, b"\x03\x00", b"\x03\x01"));
-                assert!(rt; same_action(&table[5], 9, 9, b"", b""));
-                Ok(())
-            }
-            Err(refusal) => {
-                assert_eq!(rt; refusal.number(), 0);
-                Ok(())
-            }
-        }
+        let task = read(book.bytes(), &mut table)?;
+        let sizes = task.sizes;
+        assert_eq!(rt; task.variables, 4);
+        assert_eq!(rt; task.actions, 5);
+        assert_eq!(rt; sizes[0], 3);
+        assert_eq!(rt; sizes[3], 2);
+        assert_eq!(rt; sizes[4], 0);
+        assert!(rt; same_atoms(task.goal.list(), b"\x01\x00\x02\x01\x03\x01"));
+        assert!(rt; same_action(&table[0], 2, 1, b"\x00\x00", b"\x00\x01"));
+        assert!(rt; same_action(&table[1], 2, 1, b"\x00\x01", b"\x00\x02"));
+        assert!(rt; same_action(&table[2], 5, 1, b"\x00\x02\x01\x01", b"\x00\x00\x01\x00"));
+        assert!(rt; same_action(&table[3], 10, 1, b"\x00\x00\x01\x00\x02\x00", b"\x02\x01"));
+        assert!(rt; same_action(&table[4], 4, 0, b"\x03\x00", b"\x03\x01"));
+        assert!(rt; same_action(&table[5], 9, 9, b"", b""));
+        Ok(())
     }
 
     #[test]
     fn the_fork_book(rt: HostRuntime) -> Result<(), Fail> {
-        let mut book = Maker::new();
-        book.add(b"\x01\x00\x01\x00\x03");
-        book.add(b"\x0c\x00\x02\x00\x0a\x00\x00\x00\x01\x00\x01\x01\x00\x00\x00\x02");
-        book.add(b"\x0c\x00\x02\x00\x02\x00\x00\x00\x01\x00\x01\x01\x00\x00\x00\x01");
-        book.add(b"\x0c\x00\x02\x00\x03\x00\x00\x00\x01\x00\x01\x01\x00\x01\x00\x02");
-        book.add(b"\x03\x00\x03\x00\x01\x00\x02");
+        let mut book = Maker::new(rt.alloc());
+        book.add(b"\x01\x00\x01\x00\x03")?;
+        book.add(b"\x0c\x00\x02\x00\x0a\x00\x00\x00\x01\x00\x01\x01\x00\x00\x00\x02")?;
+        book.add(b"\x0c\x00\x02\x00\x02\x00\x00\x00\x01\x00\x01\x01\x00\x00\x00\x01")?;
+        book.add(b"\x0c\x00\x02\x00\x03\x00\x00\x00\x01\x00\x01\x01\x00\x01\x00\x02")?;
+        book.add(b"\x03\x00\x03\x00\x01\x00\x02")?;
         let mut table = [spare(); 3];
-        match read(book.bytes(), &mut table) {
-            Ok(task) => {
-                assert_eq!(rt; task.variables, 1);
-                assert_eq!(rt; task.actions, 3);
-                assert!(rt; same_atoms(task.goal.list(), b"\x00\x02"));
-                assert!(rt; same_action(&table[0], 10, 1, b"\x00\x00", b"\x00\x02"));
-                assert!(rt; same_action(&table[1], 2, 1, b"\x00\x00", b"\x00\x01"));
-                assert!(rt; same_action(&table[2], 3, 1, b"\x00\x01", b"\x00\x02"));
-                Ok(())
-            }
-            Err(refusal) => {
-                assert_eq!(rt; refusal.number(), 0);
-                Ok(())
-            }
-        }
+        let task = read(book.bytes(), &mut table)?;
+        assert_eq!(rt; task.variables, 1);
+        assert_eq!(rt; task.actions, 3);
+        assert!(rt; same_atoms(task.goal.list(), b"\x00\x02"));
+        assert!(rt; same_action(&table[0], 10, 1, b"\x00\x00", b"\x00\x02"));
+        assert!(rt; same_action(&table[1], 2, 1, b"\x00\x00", b"\x00\x01"));
+        assert!(rt; same_action(&table[2], 3, 1, b"\x00\x01", b"\x00\x02"));
+        Ok(())
     }
 
     // Records that are cut short, of no known kind, or out of place, in this order.
@@ -269,68 +253,61 @@ mod tests {
     // 64 variables, 16 conditions and 16 effects, and one more of each.
     #[test]
     fn counts(rt: HostRuntime) -> Result<(), Fail> {
-        let mut book = Maker::new();
-        book.variables(64);
+        let mut book = Maker::new(rt.alloc());
+        book.variables(64)?;
         refused_after(&rt, book.bytes(), b"\x02\x00\x01\x00\x03\x03", 4, 320)?;
         refused_after(&rt, book.bytes(), b"\x01\x00\x01\x00\x00", 5, 320)?;
-        let mut conditions = Maker::new();
-        conditions.action(17, 1);
+        let mut conditions = Maker::new(rt.alloc());
+        conditions.action(17, 1)?;
         refused_after(&rt, book.bytes(), conditions.bytes(), 5, 320)?;
-        let mut more = Maker::new();
-        more.action(1, 17);
+        let mut more = Maker::new(rt.alloc());
+        more.action(1, 17)?;
         refused_after(&rt, book.bytes(), more.bytes(), 5, 320)?;
-        let mut effects = Maker::new();
-        effects.add(b"\x2a\x00\x02\x00\x41\x42\x0f\x00\x00\x00\x00\x11");
-        effects.atoms(17, 1);
+        let mut effects = Maker::new(rt.alloc());
+        effects.add(b"\x2a\x00\x02\x00\x41\x42\x0f\x00\x00\x00\x00\x11")?;
+        effects.atoms(17, 1)?;
         refused_after(&rt, book.bytes(), effects.bytes(), 5, 320)?;
-        book.action(16, 16);
-        book.add(b"\x81\x00\x03\x00\x40");
-        book.atoms(64, 2);
+        book.action(16, 16)?;
+        book.add(b"\x81\x00\x03\x00\x40")?;
+        book.atoms(64, 2)?;
         accepted(&rt, book.bytes(), 64, 1, 64)
     }
 
     // 1,024 actions, and one more.
     #[test]
     fn actions(rt: HostRuntime) -> Result<(), Fail> {
-        let mut book = Maker::new();
-        book.variables(1);
+        let mut book = Maker::new(rt.alloc());
+        book.variables(1)?;
         for _ in 0..1024 {
-            book.action(1, 1);
+            book.action(1, 1)?;
         }
-        let mut more = Maker::new();
-        more.action(1, 1);
+        let mut more = Maker::new(rt.alloc());
+        more.action(1, 1)?;
         refused_after(&rt, book.bytes(), more.bytes(), 5, 16389)?;
         refused_after(&rt, book.bytes(), b"", 12, 16389)?;
-        book.add(b"\x01\x00\x03\x00\x00");
+        book.add(b"\x01\x00\x03\x00\x00")?;
         accepted(&rt, book.bytes(), 1, 1024, 0)
     }
 
     // A table with too few places is refused after the book, and keeps what it held.
     #[test]
     fn a_short_table(rt: HostRuntime) -> Result<(), Fail> {
-        let mut book = Maker::new();
-        book.variables(1);
-        book.action(1, 1);
-        book.action(1, 1);
+        let mut book = Maker::new(rt.alloc());
+        book.variables(1)?;
+        book.action(1, 1)?;
+        book.action(1, 1)?;
         let mut table = [spare(); 1];
-        match read(book.bytes(), &mut table) {
-            Ok(task) => assert_eq!(rt; task.variables, 1000),
-            Err(refusal) => assert_eq!(rt; refusal.number(), 12),
-        }
-        book.add(b"\x01\x00\x03\x00\x00");
-        match read(book.bytes(), &mut table) {
-            Ok(task) => {
-                assert_eq!(rt; task.variables, 1000);
-                Ok(())
-            }
-            Err(refusal) => {
-                assert_eq!(rt; refusal.number(), 21);
-                assert_eq!(rt; refusal.layer(), 2);
-                assert_eq!(rt; refusal.place, 1);
-                assert!(rt; same_action(&table[0], 9, 9, b"", b""));
-                Ok(())
-            }
-        }
+        assert_eq!(rt;
+            read(book.bytes(), &mut table).map_err(|refusal| refusal.number()),
+            Err(12)
+        );
+        book.add(b"\x01\x00\x03\x00\x00")?;
+        assert_eq!(rt;
+            read(book.bytes(), &mut table).map_err(parts),
+            Err((21, 2, 1))
+        );
+        assert!(rt; same_action(&table[0], 9, 9, b"", b""));
+        Ok(())
     }
 
     // No actions and a goal with no atom; the greatest numbers; one of each record at its least.
@@ -351,23 +328,23 @@ mod tests {
     // 64 variables of 32 values, and all of them in the goal.
     #[test]
     fn most_variables(rt: HostRuntime) -> Result<(), Fail> {
-        let mut book = Maker::new();
-        book.variables(64);
-        book.action(16, 16);
-        book.add(b"\x81\x00\x03\x00\x40");
-        book.atoms(64, 31);
+        let mut book = Maker::new(rt.alloc());
+        book.variables(64)?;
+        book.action(16, 16)?;
+        book.add(b"\x81\x00\x03\x00\x40")?;
+        book.atoms(64, 31)?;
         round_trip(&rt, book.bytes())
     }
 
     // 1,024 actions with 16 conditions and 16 effects.
     #[test]
     fn most_actions(rt: HostRuntime) -> Result<(), Fail> {
-        let mut book = Maker::new();
-        book.variables(16);
+        let mut book = Maker::new(rt.alloc());
+        book.variables(16)?;
         for _ in 0..1024 {
-            book.action(16, 16);
+            book.action(16, 16)?;
         }
-        book.add(b"\x01\x00\x03\x00\x00");
+        book.add(b"\x01\x00\x03\x00\x00")?;
         assert_eq!(rt; book.bytes().len(), 77909);
         round_trip(&rt, book.bytes())
     }
@@ -375,23 +352,16 @@ mod tests {
     // A short table of actions is refused before a short output.
     #[test]
     fn short_tables(rt: HostRuntime) -> Result<(), Fail> {
-        let mut book = Maker::new();
-        book.variables(1);
-        book.action(1, 1);
-        book.action(1, 1);
-        book.add(b"\x01\x00\x03\x00\x00");
+        let mut book = Maker::new(rt.alloc());
+        book.variables(1)?;
+        book.action(1, 1)?;
+        book.action(1, 1)?;
+        book.add(b"\x01\x00\x03\x00\x00")?;
         let mut table = [spare(); 2];
-        match read(book.bytes(), &mut table) {
-            Ok(task) => {
-                not_written(&rt, &task, &table[0..1], 50, 1)?;
-                not_written(&rt, &task, &table[0..1], 3, 1)?;
-                not_written(&rt, &task, &table, 41, 7)?;
-                written(&rt, &task, &table, 42, book.bytes())
-            }
-            Err(refusal) => {
-                assert_eq!(rt; refusal.number(), 0);
-                Ok(())
-            }
-        }
+        let task = read(book.bytes(), &mut table)?;
+        not_written(&rt, &task, &table[0..1], 50, 1)?;
+        not_written(&rt, &task, &table[0..1], 3, 1)?;
+        not_written(&rt, &task, &table, 41, 7)?;
+        written(&rt, &task, &table, 42, book.bytes())
     }
 }

@@ -9,197 +9,147 @@ use search::{
 };
 use std::{fs, io};
 use tariff::Time;
-use task::{Action, Refusal, Task};
+use task::{Action, Task};
 
 const ROWS: usize = 64;
 
 const BOUND: u64 = 23;
 
-// An action of the plan, and the tenths that remain after it.
-#[derive(Clone, Copy)]
-struct Step {
-    action: u16,
-    remaining: u64,
+// The tables that a search is lent at each call: of fixed lengths, where the tests of `search` choose theirs.
+#[derive(Drop)]
+struct OwnTables {
+    rows: [Row<u64>; ROWS],
+    queue: [Entry<u64>; ROWS],
+    plan: [u16; ROWS],
+    marks: [u8; 1024],
+    work: [u8; 4096],
 }
 
-// How a changeover came out, with the number of settings expanded.
-#[derive(Clone, Copy)]
-enum Outcome {
-    Found {
-        charge: u64,
-        count: usize,
-        steps: usize,
-    },
-    NoPlan {
-        count: usize,
-    },
-    Full {
-        count: usize,
-    },
-    Working {
-        count: usize,
-    },
+impl OwnTables {
+    fn new() -> OwnTables {
+        let row = Row {
+            setting: [0; 64],
+            charge: 0,
+            closed: false,
+            origin: 0,
+            action: 0,
+        };
+        let waiting = Waiting { charge: 0, row: 0 };
+        OwnTables {
+            rows: [row; ROWS],
+            queue: [Entry { waiting, place: 0 }; ROWS],
+            plan: [0; ROWS],
+            marks: [0; 1024],
+            work: [0; 4096],
+        }
+    }
+
+    fn lend(&mut self) -> Tables<u64> {
+        let OwnTables {
+            rows,
+            queue,
+            plan,
+            marks,
+            work,
+        } = self;
+        Tables {
+            rows,
+            queue,
+            plan,
+            marks,
+            work,
+        }
+    }
 }
 
-// Takes the plan's actions one by one, and gives the search up.
-fn take_all(
+// Takes the plan's actions one by one, tells each, and gives the search up.
+fn tell_steps(
+    rt: &HostRuntime,
     actions: &[Action],
     plan: &[u16],
     ended: Ended<u64>,
-    steps: &mut [Step; ROWS],
-) -> (Rest, usize) {
+) -> io::Result<()> {
     let mut phase = ended;
-    for i in 0..ROWS {
+    // a plan has at most as many actions as its list has places
+    for _ in plan {
         match take(&Time, actions, plan, phase) {
-            Ok(taken) => {
-                let Taken {
+            Ok(
+                Taken {
                     ended,
                     action,
                     remaining,
-                } = taken;
-                steps[i] = Step { action, remaining };
+                },
+            ) => {
                 phase = ended;
+                if let Err(error) = println!(rt; "do {action}, {remaining} tenths remain") {
+                    let _ = phase.abandon().into_task();
+                    return Err(error);
+                }
             }
-            Err(refused) => {
-                let Refused { phase, refusal: _ } = refused;
-                return (phase.abandon(), i);
+            Err(Refused { phase, refusal: _ }) => {
+                let _ = phase.abandon().into_task();
+                return Ok(());
             }
         }
     }
-    (phase.abandon(), ROWS)
+    let _ = phase.abandon().into_task();
+    Ok(())
 }
 
-// What the search came to, and the planner at rest again.
-fn settle(
+// Tells what the search came to, and gives it up.
+fn tell(
+    rt: &HostRuntime,
     actions: &[Action],
     plan: &[u16],
     advanced: Advanced<u64>,
-    steps: &mut [Step; ROWS],
-) -> (Rest, Outcome) {
+) -> io::Result<()> {
     match advanced {
         Advanced::Found(ended, charge, count) => {
-            let (rest, steps) = take_all(actions, plan, ended, steps);
-            (
-                rest,
-                Outcome::Found {
-                    charge,
-                    count,
-                    steps,
-                },
-            )
-        }
-        Advanced::NoPlan(ended, count) => (ended.abandon(), Outcome::NoPlan { count }),
-        Advanced::Full(ended, count) => (ended.abandon(), Outcome::Full { count }),
-        Advanced::Working(search, count) => (search.abandon(), Outcome::Working { count }),
-    }
-}
-
-// Plans the changeover, and writes the plan's actions into the first steps.
-fn plan_changeover(
-    task: Task,
-    actions: &[Action],
-    steps: &mut [Step; ROWS],
-) -> Result<Outcome, Refusal> {
-    let row = Row {
-        setting: [0; 64],
-        charge: 0,
-        closed: false,
-        origin: 0,
-        action: 0,
-    };
-    let waiting = Waiting { charge: 0, row: 0 };
-    let mut rows = [row; ROWS];
-    let mut queue = [Entry { waiting, place: 0 }; ROWS];
-    let mut plan = [0; ROWS];
-    let mut marks = [0; 1024];
-    let mut work = [0; 4096];
-    let mut start = [0; 64];
-    start[1] = 1;
-    let lent = Tables {
-        rows: &mut rows,
-        queue: &mut queue,
-        plan: &mut plan,
-        marks: &mut marks,
-        work: &mut work,
-    };
-    let search = match begin(&Time, Rest::new(task), lent, start, BOUND) {
-        Ok(search) => search,
-        Err(refused) => {
-            let Refused { phase, refusal } = refused;
-            let _ = phase.into_task();
-            return Err(refusal);
-        }
-    };
-    let lent = Tables {
-        rows: &mut rows,
-        queue: &mut queue,
-        plan: &mut plan,
-        marks: &mut marks,
-        work: &mut work,
-    };
-    match advance(&Time, &Atoms, actions, search, lent, ROWS) {
-        Ok(advanced) => {
-            let (rest, outcome) = settle(actions, &plan, advanced, steps);
-            let _ = rest.into_task();
-            Ok(outcome)
-        }
-        Err(refused) => {
-            let Refused { phase, refusal } = refused;
-            let _ = phase.abandon().into_task();
-            Err(refusal)
-        }
-    }
-}
-
-fn refused(rt: &HostRuntime, refusal: Refusal) -> io::Result<()> {
-    let number = refusal.number();
-    let layer = refusal.layer();
-    let place = refusal.place;
-    println!(rt; "refused: number {number}, layer {layer}, place {place}")
-}
-
-fn told(rt: &HostRuntime, outcome: Outcome, steps: &[Step; ROWS]) -> io::Result<()> {
-    match outcome {
-        Outcome::Found {
-            charge,
-            count,
-            steps: taken,
-        } => {
-            for step in steps.iter().take(taken) {
-                let action = step.action;
-                let remaining = step.remaining;
-                println!(rt; "do {action}, {remaining} tenths remain")?;
-            }
+            tell_steps(rt, actions, plan, ended)?;
             println!(rt; "{charge} tenths in all, {count} settings expanded")
         }
-        Outcome::NoPlan { count } => {
+        Advanced::NoPlan(ended, count) => {
+            let _ = ended.abandon().into_task();
             println!(rt; "no plan within the bound, {count} settings expanded")
         }
-        Outcome::Full { count } => println!(rt; "no row left, {count} settings expanded"),
-        Outcome::Working { count } => println!(rt; "not ended, {count} settings expanded"),
+        Advanced::Full(ended, count) => {
+            let _ = ended.abandon().into_task();
+            println!(rt; "no row left, {count} settings expanded")
+        }
+        Advanced::Working(search, count) => {
+            let _ = search.abandon().into_task();
+            println!(rt; "not ended, {count} settings expanded")
+        }
+    }
+}
+
+// Plans the changeover, and tells how it came out.
+fn plan_changeover(rt: &HostRuntime, task: Task, actions: &[Action]) -> io::Result<()> {
+    let mut tables = OwnTables::new();
+    let mut start = [0; 64];
+    start[1] = 1;
+    let search = match begin(&Time, Rest::new(task), tables.lend(), start, BOUND) {
+        Ok(search) => search,
+        Err(Refused { phase, refusal }) => {
+            let _ = phase.into_task();
+            return println!(rt; "{refusal}");
+        }
+    };
+    match advance(&Time, &Atoms, actions, search, tables.lend(), ROWS) {
+        Ok(advanced) => tell(rt, actions, &tables.plan, advanced),
+        Err(Refused { phase, refusal }) => {
+            let _ = phase.abandon().into_task();
+            println!(rt; "{refusal}")
+        }
     }
 }
 
 fn run(rt: &HostRuntime) -> anyhow::Result<()> {
     let bytes = fs::read(rt, "bench.bk")?;
-    let blank = Action {
-        tenths: 0,
-        presses: 0,
-        conditions: task::Atoms::none(),
-        effects: task::Atoms::none(),
-    };
-    let mut actions = [blank; 1024];
-    let mut steps = [Step {
-        action: 0,
-        remaining: 0,
-    }; ROWS];
-    let outcome = match read(bytes.as_slice(), &mut actions) {
-        Ok(task) => plan_changeover(task, &actions, &mut steps),
-        Err(refusal) => Err(refusal),
-    };
-    match outcome {
-        Ok(outcome) => told(rt, outcome, &steps)?,
-        Err(refusal) => refused(rt, refusal)?,
+    let mut actions = [Action::default(); 1024];
+    match read(bytes.as_slice(), &mut actions) {
+        Ok(task) => plan_changeover(rt, task, &actions)?,
+        Err(refusal) => println!(rt; "{refusal}")?,
     }
     Ok(())
 }

@@ -18,7 +18,7 @@ impl Chance {
         let next = self.state.wrapping_mul(6_364_136_223_846_793_005);
         self.state = next.wrapping_add(1_442_695_040_888_963_407);
         let high = ((self.state >> 33) & 0x7fff_ffff) as u32;
-        if n == 0 { 0 } else { high % n }
+        high.checked_rem(n).unwrap_or(0)
     }
 
     // True once in `n` times.

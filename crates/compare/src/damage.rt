@@ -2,16 +2,11 @@
 use crate::chance::Chance;
 use crate::made::Made;
 use book::{read, write};
+use std::alloc::{AllocError, Global};
 use task::Action;
 
+// No book is longer.
 const ROOM: usize = 512;
-
-// A book of up to 512 bytes.
-#[derive(Clone, Copy)]
-pub(crate) struct Book {
-    bytes: [u8; ROOM],
-    length: usize,
-}
 
 // What became of a book.
 #[derive(Clone, Copy)]
@@ -21,70 +16,59 @@ pub(crate) enum Fate {
     Wrong,
 }
 
-// The task's book.
-pub(crate) fn book_of(made: &Made) -> Option<Book> {
-    let mut bytes = [0; ROOM];
-    match write(&made.task, &made.table, &mut bytes) {
-        Ok(length) => Some(Book { bytes, length }),
-        Err(_) => None,
+// The task's book, if it is written.
+pub(crate) fn book_of(alloc: Global, made: &Made) -> Result<Option<Vec<u8>>, AllocError> {
+    let mut book = vec![in alloc; 0; ROOM]?;
+    match write(&made.task, &made.table, &mut book) {
+        Ok(length) => {
+            book.truncate(length);
+            Ok(Some(book))
+        }
+        Err(_) => Ok(None),
     }
 }
 
 // One byte is another, or the end is cut off, or a byte more stands there.
-pub(crate) fn damaged(book: Book, chance: &mut Chance) -> Book {
-    let mut hurt = book;
-    let at = chance.below((book.length & 1023) as u32) as usize;
-    let byte = (chance.below(256) & 255) as u8;
+pub(crate) fn damaged(
+    alloc: Global,
+    book: &[u8],
+    chance: &mut Chance,
+) -> Result<Vec<u8>, AllocError> {
+    let mut hurt = book.to_vec(alloc)?;
+    let at = chance.below((book.len() & 1023) as u32) as usize;
+    let byte = chance.below(256) as u8;
+    // Eight ways of equal chance, and no kinds with names: what is drawn is only done here.
     match chance.below(8) {
-        0 => hurt.length = at,
-        1 => {
-            if book.length < ROOM {
-                hurt.bytes[book.length] = byte;
-                hurt.length = book.length + 1;
-            }
-        }
-        2 | 3 => {
-            if at < ROOM {
-                hurt.bytes[at] = byte & 3;
-            }
-        }
-        4 => {
-            if at < ROOM {
-                hurt.bytes[at] = hurt.bytes[at] ^ 1;
-            }
-        }
-        _ => {
-            if at < ROOM {
-                hurt.bytes[at] = byte;
+        0 => hurt.truncate(at),
+        1 if hurt.len() < ROOM => hurt.push(byte)?,
+        1 => {}
+        kind => {
+            if let Some(hit) = hurt.get_mut(at) {
+                *hit = match kind {
+                    2 | 3 => byte & 3,
+                    4 => *hit ^ 1,
+                    _ => byte,
+                };
             }
         }
     }
-    hurt
+    Ok(hurt)
 }
 
 // Reads the book, and writes what was read.
-pub(crate) fn reread(book: &Book, blank: Action) -> Fate {
-    let mut table = [blank; 64];
-    let given = &book.bytes[0..book.length.min(ROOM)];
-    let task = match read(given, &mut table) {
+pub(crate) fn reread(book: &[u8]) -> Fate {
+    let mut table = [Action::default(); 64];
+    let task = match read(book, &mut table) {
         Ok(task) => task,
         Err(refusal) => {
-            let number = refusal.number();
-            let known = (1 <= number && number <= 12) || number == 21;
-            let lawful = known && refusal.place <= given.len();
+            let known = matches!(refusal.number(), 1..=12 | 21);
+            let lawful = known && refusal.place <= book.len();
             return if lawful { Fate::Refused } else { Fate::Wrong };
         }
     };
     let mut again = [0; ROOM];
     match write(&task, &table, &mut again) {
-        Ok(length) if length == given.len() => {
-            for (old, new) in given.iter().zip(&again) {
-                if *old != *new {
-                    return Fate::Wrong;
-                }
-            }
-            Fate::ReadBack
-        }
+        Ok(length) if again.get(0..length) == Some(book) => Fate::ReadBack,
         _ => Fate::Wrong,
     }
 }

@@ -1,91 +1,76 @@
 // Compares what the session and the rules answer with what the exhaustive search and the plain closure say.
 use crate::chance::Chance;
 use crate::made::{Made, setting};
-use crate::plain::{
-    Billing, Cost, FREE, Known, SETTINGS, STEPS, Small, Values, after, at_most, cheapest, closure,
-    met, plus, price, within,
-};
-use crate::runs::{End, Ran};
+use crate::plain::{Cost, Costs, Prices, Small, Values, cheapest, closure, within};
+use crate::runs::{End, Failure, Went};
 use rules::Rule;
+use std::alloc::{AllocError, Global};
 
 // Is the list a plan from the task's start at this cost, and was each remainder the cost of what followed?
-fn is_plan(small: Small, billing: Billing, ran: &Ran, cost: Cost) -> bool {
+fn is_plan<P: Prices>(small: &Small, prices: &P, plan: &[Went], cost: Cost) -> bool {
     let mut values = small.start;
     let mut left = cost;
-    let mut sum = FREE;
-    for i in 0..SETTINGS {
-        if i >= ran.length {
-            break;
-        }
-        let went = ran.went[i];
-        if went.action >= STEPS || went.action >= small.count {
+    let mut sum = Cost::default();
+    for went in plan {
+        let Some(step) = small.steps.get(went.action) else {
+            return false;
+        };
+        if !step.conditions.met(values) {
             return false;
         }
-        let step = small.steps[went.action];
-        if !met(step.conditions, values) {
-            return false;
-        }
-        let next = after(step, values);
+        let next = step.after(values);
         values = next;
-        let own = price(step, billing);
-        sum = plus(sum, own);
-        if plus(went.remaining, own) != left {
+        let own = prices.price(step);
+        sum = sum.plus(own);
+        if went.remaining.plus(own) != left {
             return false;
         }
         left = went.remaining;
     }
-    ran.length <= SETTINGS && met(small.goal, values) && sum == cost && left == FREE
+    small.goal.met(values) && sum == cost && left == Cost::default()
 }
 
 // Did the search end as it must?
-pub(crate) fn ended_rightly(
-    small: Small,
-    billing: Billing,
-    costs: &[Known; SETTINGS],
+pub(crate) fn ended_rightly<P: Prices>(
+    small: &Small,
+    prices: &P,
+    costs: &Costs,
     bound: Cost,
     places: usize,
-    ran: &Ran,
+    ended: &Result<End, Failure>,
 ) -> bool {
-    let best = cheapest(small, costs);
-    let there_is = best.reached && at_most(best.cost, bound);
-    match ran.end {
-        End::Found(cost) => there_is && cost == best.cost && is_plan(small, billing, ran, cost),
-        End::NoPlan => !there_is,
-        End::Full => within(costs, bound) > places,
-        End::Refused | End::Endless => false,
+    let best = cheapest(small, costs).filter(|cost| *cost <= bound);
+    match ended {
+        Ok(End::Found(cost, plan)) => best == Some(*cost) && is_plan(small, prices, plan, *cost),
+        Ok(End::NoPlan) => best.is_none(),
+        Ok(End::Full) => within(costs, bound) > places,
+        Err(_) => false,
     }
 }
 
 // Does the rule mark these actions, whatever marks and work held, and leave the work bytes zero?
 pub(crate) fn marks_so<R: Rule>(
+    alloc: Global,
     rule: &R,
-    small: Small,
+    small: &Small,
     made: &Made,
     values: Values,
     chance: &mut Chance,
-) -> bool {
-    let expected = closure(small, values);
-    let dirt = (chance.below(3) & 255) as u8;
-    let mut marks = [dirt; STEPS];
+) -> Result<bool, AllocError> {
+    let expected = closure(alloc, small, values)?;
+    let dirt = chance.below(3) as u8;
+    let mut marks = vec![in alloc; dirt; small.steps.len()]?;
     let mut work = [dirt; 4096];
-    let count = small.count.min(STEPS);
     rule.mark(
         &made.task,
         &made.table,
         setting(values),
-        &mut marks[0..count],
+        &mut marks,
         &mut work,
     );
-    let mut same = true;
-    for k in 0..count {
-        if k < STEPS && marks[k] != expected[k] {
-            same = false;
-        }
-    }
-    for byte in work {
-        if byte != 0 {
-            same = false;
-        }
-    }
-    same
+    let marked = marks
+        .iter()
+        .zip(&expected)
+        .all(|(mark, called)| *mark == u8::from(*called));
+    Ok(marked && work.iter().all(|byte| *byte == 0))
 }

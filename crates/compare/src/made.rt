@@ -1,6 +1,7 @@
 // Small tasks of many shapes, and the same as the planner's data.
 use crate::chance::Chance;
-use crate::plain::{NONE, STEPS, Small, Step, Values};
+use crate::plain::{Partial, STEPS, Small, Step, Values};
+use std::alloc::{AllocError, Global};
 use task::{Action, Atom, Atoms, Setting, Task};
 
 // What a made task is like: an atom stands in one of so many places, and charges lie below a number.
@@ -31,37 +32,43 @@ fn some_value(chance: &mut Chance, size: u8) -> u8 {
     (chance.below(u32::from(size)) & 3) as u8
 }
 
+// A value of each variable.
+pub(crate) fn some_values(chance: &mut Chance, sizes: Values) -> Values {
+    sizes.map(|size| some_value(chance, size))
+}
+
 // A value for each variable, once in so many times.
-fn some_values(chance: &mut Chance, sizes: Values, once: u32) -> Values {
-    let mut values = [NONE; 4];
-    for v in 0..4 {
+fn some_partial(chance: &mut Chance, sizes: Values, once: u32) -> Partial {
+    let mut values = [None; 4];
+    for (value, size) in values.iter_mut().zip(&sizes) {
         if chance.once_in(once) {
-            values[v] = some_value(chance, sizes[v]);
+            *value = Some(some_value(chance, *size));
         }
     }
-    values
+    Partial { values }
 }
 
 // No effect repeats a condition, and at least one is there, where a variable has two values.
-fn some_effects(chance: &mut Chance, sizes: Values, conditions: Values, once: u32) -> Values {
-    let mut effects = some_values(chance, sizes, once);
-    let mut any = false;
-    for v in 0..4 {
-        if effects[v] == conditions[v] {
-            effects[v] = NONE;
-        }
-        if effects[v] != NONE {
-            any = true;
+fn some_effects(chance: &mut Chance, sizes: Values, conditions: Partial, once: u32) -> Partial {
+    let mut effects = some_partial(chance, sizes, once);
+    for (effect, condition) in effects.values.iter_mut().zip(&conditions.values) {
+        if *effect == *condition {
+            *effect = None;
         }
     }
-    if !any {
-        effects[0] = if conditions[0] == 0 { 1 } else { 0 };
+    if effects.values.iter().all(|effect| effect.is_none()) {
+        let other = if conditions.values[0] == Some(0) {
+            1
+        } else {
+            0
+        };
+        effects.values[0] = Some(other);
     }
     effects
 }
 
 fn some_step(chance: &mut Chance, sizes: Values, shape: Shape) -> Step {
-    let conditions = some_values(chance, sizes, shape.conditions);
+    let conditions = some_partial(chance, sizes, shape.conditions);
     let effects = some_effects(chance, sizes, conditions, shape.effects);
     let tenths = chance.below(shape.tenths);
     let presses = (chance.below(shape.presses) & 1023) as u16;
@@ -73,55 +80,56 @@ fn some_step(chance: &mut Chance, sizes: Values, shape: Shape) -> Step {
     }
 }
 
-// A task of up to eight actions; its first variable has at least two values.
-pub(crate) fn some_task(chance: &mut Chance) -> Small {
-    let shape = some_shape(chance);
+fn some_sizes(chance: &mut Chance) -> Values {
     let mut sizes = [2; 4];
-    let mut start = [0; 4];
-    for v in 0..4 {
-        sizes[v] = (1 + chance.below(4)) as u8;
+    for size in sizes.iter_mut() {
+        *size = (1 + chance.below(4)) as u8;
     }
-    if sizes[0] < 2 {
-        sizes[0] = 2;
+    sizes[0] = sizes[0].max(2);
+    sizes
+}
+
+// A task of up to eight actions; its first variable has at least two values.
+pub(crate) fn some_task(alloc: Global, chance: &mut Chance) -> Result<Small, AllocError> {
+    let shape = some_shape(chance);
+    let sizes = some_sizes(chance);
+    let start = some_values(chance, sizes);
+    let goal = some_partial(chance, sizes, shape.goals);
+    // A step that is drawn and left: without it every later draw, and so every task, would be another.
+    some_step(chance, sizes, shape);
+    let mut steps = Vec::new(alloc);
+    for _ in 0..STEPS {
+        steps.push(some_step(chance, sizes, shape))?;
     }
-    for v in 0..4 {
-        start[v] = some_value(chance, sizes[v]);
-    }
-    let goal = some_values(chance, sizes, shape.goals);
-    let blank = some_step(chance, sizes, shape);
-    let mut steps = [blank; STEPS];
-    for step in steps.iter_mut() {
-        *step = some_step(chance, sizes, shape);
-    }
-    let count = chance.below(9) as usize;
-    Small {
+    let count = chance.below(STEPS as u32 + 1) as usize;
+    let spare = steps.split_off(count.min(steps.len()))?;
+    Ok(Small {
         sizes,
         steps,
-        count,
+        spare,
         goal,
         start,
-    }
+    })
 }
 
 // The planner's task and its table of actions.
-#[derive(Clone, Copy)]
+#[derive(Drop)]
 pub(crate) struct Made {
     pub(crate) task: Task,
-    pub(crate) table: [Action; STEPS],
+    pub(crate) table: Vec<Action>,
 }
 
-fn atoms<const N: usize>(values: Values) -> Atoms<N> {
+fn atoms<const N: usize>(partial: Partial) -> Atoms<N> {
     let mut list = Atoms::none();
-    for v in 0..4u8 {
-        let value = values[v as usize];
-        if value != NONE {
-            list.push(Atom { variable: v, value });
+    for (variable, value) in (0..4).zip(&partial.values) {
+        if let Some(value) = *value {
+            list.push(Atom { variable, value });
         }
     }
     list
 }
 
-fn action(step: Step) -> Action {
+fn action(step: &Step) -> Action {
     Action {
         tenths: step.tenths.min(1_000_000),
         presses: step.presses.min(1000),
@@ -133,23 +141,22 @@ fn action(step: Step) -> Action {
 // The values, and 0 past the fourth variable.
 pub(crate) fn setting(values: Values) -> Setting {
     let mut all = [0; 64];
-    for v in 0..4 {
-        all[v] = values[v];
-    }
+    all[0..4].copy_from_slice(&values);
     all
 }
 
-pub(crate) fn task_of(small: Small) -> Made {
-    let sizes = setting(small.sizes);
-    let mut table = [action(small.steps[0]); STEPS];
-    for k in 0..STEPS {
-        table[k] = action(small.steps[k]);
-    }
+pub(crate) fn task_of(alloc: Global, small: &Small) -> Result<Made, AllocError> {
+    let table = small
+        .steps
+        .iter()
+        .chain(&small.spare)
+        .map(action)
+        .collect(alloc)?;
     let task = Task {
         variables: 4,
-        sizes,
-        actions: small.count.min(STEPS),
+        sizes: setting(small.sizes),
+        actions: small.steps.len().min(STEPS),
         goal: atoms(small.goal),
     };
-    Made { task, table }
+    Ok(Made { task, table })
 }

@@ -5,12 +5,12 @@
 use chance::Chance;
 use damage::{Fate, book_of, damaged, reread};
 use judge::{ended_rightly, marks_so};
-use made::{Made, setting, some_task, task_of};
-use plain::{Billing, Cost, Known, SETTINGS, Small, cheapest, exhaust};
+use made::{Made, setting, some_task, some_values, task_of};
+use plain::{Cost, Costs, SETTINGS, Small, cheapest, exhaust};
 use rules::{Actions, All, Atoms, Rule};
-use runs::{Billed, End, search_by, spare_entry, spare_row};
-use search::{Entry, Row};
-use tariff::{Pressed, Presses, Time};
+use runs::{Billed, End, Failure, Planner};
+use std::alloc::{AllocError, Global};
+use tariff::{Presses, Time};
 
 mod chance;
 mod damage;
@@ -24,7 +24,7 @@ const TASKS: u32 = 2500;
 const DAMAGES: u32 = 4;
 
 // How often each thing came about.
-#[derive(Clone, Copy)]
+#[derive(Clone, Copy, Default)]
 struct Tally {
     searches: u32,
     found: u32,
@@ -37,13 +37,13 @@ struct Tally {
 }
 
 impl Tally {
-    fn ended(&mut self, end: End) {
+    fn ended(&mut self, ended: &Result<End, Failure>) {
         self.searches = self.searches.saturating_add(1);
-        match end {
-            End::Found(_) => self.found = self.found.saturating_add(1),
-            End::NoPlan => self.none = self.none.saturating_add(1),
-            End::Full => self.full = self.full.saturating_add(1),
-            End::Refused | End::Endless => {}
+        match ended {
+            Ok(End::Found(_, _)) => self.found = self.found.saturating_add(1),
+            Ok(End::NoPlan) => self.none = self.none.saturating_add(1),
+            Ok(End::Full) => self.full = self.full.saturating_add(1),
+            Err(_) => {}
         }
     }
 
@@ -63,8 +63,9 @@ impl Tally {
 }
 
 // A bound: the least cost of a plan, a little less, or any other.
-fn some_bound(small: Small, costs: &[Known; SETTINGS], chance: &mut Chance) -> Cost {
-    let best = cheapest(small, costs).cost;
+fn some_bound(small: &Small, costs: &Costs, chance: &mut Chance) -> Cost {
+    let best = cheapest(small, costs).unwrap_or_default();
+    // Four ways of equal chance, and no kinds with names: what is drawn is only done here.
     match chance.below(4) {
         0 => best,
         1 if best.second > 0 => Cost {
@@ -86,141 +87,107 @@ fn some_bound(small: Small, costs: &[Known; SETTINGS], chance: &mut Chance) -> C
     }
 }
 
-// A task, how it is billed, and what each setting costs then.
-#[derive(Clone, Copy)]
+// A task, and the same as the planner's data.
+#[derive(Drop)]
 struct Case {
     small: Small,
     made: Made,
-    billing: Billing,
-    costs: [Known; SETTINGS],
 }
 
-fn case_of(small: Small, made: Made, billing: Billing) -> Case {
-    let costs = exhaust(small, billing);
-    Case {
-        small,
-        made,
-        billing,
-        costs,
+// The comparison so far.
+#[derive(Drop)]
+struct Comparison {
+    alloc: Global,
+    chance: Chance,
+    tally: Tally,
+}
+
+impl Comparison {
+    // One search by one rule.
+    fn search<B: Billed, R: Rule>(
+        &mut self,
+        planner: &mut Planner<B>,
+        rule: &R,
+        case: &Case,
+        costs: &Costs,
+    ) {
+        let small = &case.small;
+        let chance = &mut self.chance;
+        let bound = some_bound(small, costs, chance);
+        let places = if chance.once_in(2) {
+            1 + chance.below(4) as usize
+        } else {
+            SETTINGS
+        };
+        let start = setting(small.start);
+        let ended = planner.search(self.alloc, rule, &case.made, start, bound, places, chance);
+        self.tally.ended(&ended);
+        let right = ended_rightly(small, &planner.tariff, costs, bound, places, &ended);
+        self.tally.judge(right);
     }
-}
 
-// One search by one rule.
-fn compare_search<C: Copy, B: Billed<C>, R: Rule>(
-    tariff: &B,
-    rule: &R,
-    case: &Case,
-    rows: &mut [Row<C>],
-    queue: &mut [Entry<C>],
-    chance: &mut Chance,
-    tally: &mut Tally,
-) {
-    let small = case.small;
-    let bound = some_bound(small, &case.costs, chance);
-    let places = if chance.once_in(2) {
-        1 + chance.below(4) as usize
-    } else {
-        SETTINGS
-    };
-    let places = places.min(rows.len());
-    let part = &mut rows[0..places];
-    let start = setting(small.start);
-    let ran = search_by(tariff, rule, &case.made, start, bound, part, queue, chance);
-    tally.ended(ran.end);
-    let right = ended_rightly(small, case.billing, &case.costs, bound, places, &ran);
-    tally.judge(right);
-}
+    // The task by every rule under one tariff.
+    fn searches<B: Billed>(&mut self, planner: &mut Planner<B>, case: &Case) {
+        let costs = exhaust(&case.small, &planner.tariff);
+        self.search(planner, &All, case, &costs);
+        self.search(planner, &Actions, case, &costs);
+        self.search(planner, &Atoms, case, &costs);
+    }
 
-// The task by every rule under one tariff.
-fn compare_tariff<C: Copy, B: Billed<C>>(
-    tariff: &B,
-    case: &Case,
-    rows: &mut [Row<C>],
-    queue: &mut [Entry<C>],
-    chance: &mut Chance,
-    tally: &mut Tally,
-) {
-    compare_search(tariff, &All, case, rows, queue, chance, tally);
-    compare_search(tariff, &Actions, case, rows, queue, chance, tally);
-    compare_search(tariff, &Atoms, case, rows, queue, chance, tally);
-}
-
-// The task's marks by both rules, in its start and in a setting of chance.
-fn compare_marks(small: Small, made: &Made, chance: &mut Chance, tally: &mut Tally) {
-    let mut values = small.start;
-    for _ in 0..2 {
-        tally.markings = tally.markings.saturating_add(2);
-        tally.judge(marks_so(&Actions, small, made, values, chance));
-        tally.judge(marks_so(&Atoms, small, made, values, chance));
-        for v in 0..4 {
-            values[v] = (chance.below(u32::from(small.sizes[v])) & 3) as u8;
+    // The task's marks by both rules, in its start and in a setting of chance.
+    fn markings(&mut self, case: &Case) -> Result<(), AllocError> {
+        let Case { small, made } = case;
+        let mut values = small.start;
+        for _ in 0..2 {
+            self.tally.markings = self.tally.markings.saturating_add(2);
+            let by_actions = marks_so(self.alloc, &Actions, small, made, values, &mut self.chance)?;
+            self.tally.judge(by_actions);
+            let by_atoms = marks_so(self.alloc, &Atoms, small, made, values, &mut self.chance)?;
+            self.tally.judge(by_atoms);
+            values = some_values(&mut self.chance, small.sizes);
         }
+        Ok(())
     }
-}
 
-// The task's book, whole and damaged.
-fn compare_books(made: &Made, chance: &mut Chance, tally: &mut Tally) {
-    let Some(book) = book_of(made) else {
-        tally.judge(false);
-        return;
-    };
-    tally.read(reread(&book, made.table[0]));
-    for _ in 0..DAMAGES {
-        let hurt = damaged(book, chance);
-        tally.read(reread(&hurt, made.table[0]));
+    // The task's book, whole and damaged.
+    fn books(&mut self, case: &Case) -> Result<(), AllocError> {
+        let Some(book) = book_of(self.alloc, &case.made)? else {
+            self.tally.judge(false);
+            return Ok(());
+        };
+        self.tally.read(reread(&book));
+        for _ in 0..DAMAGES {
+            let hurt = damaged(self.alloc, &book, &mut self.chance)?;
+            self.tally.read(reread(&hurt));
+        }
+        Ok(())
     }
-}
 
-// Makes the tasks, and compares.
-fn compare_tasks(
-    time_rows: &mut [Row<u64>],
-    time_queue: &mut [Entry<u64>],
-    press_rows: &mut [Row<Pressed>],
-    press_queue: &mut [Entry<Pressed>],
-    chance: &mut Chance,
-    tally: &mut Tally,
-) {
-    for _ in 0..TASKS {
-        let small = some_task(chance);
-        let made = task_of(small);
-        let case = case_of(small, made, Billing::Time);
-        compare_tariff(&Time, &case, time_rows, time_queue, chance, tally);
-        let case = case_of(small, made, Billing::Presses);
-        compare_tariff(&Presses, &case, press_rows, press_queue, chance, tally);
-        compare_marks(small, &made, chance, tally);
-        compare_books(&made, chance, tally);
+    // Makes the tasks, and compares.
+    fn tasks(&mut self) -> Result<(), AllocError> {
+        let mut by_time = Planner::new(Time);
+        let mut by_presses = Planner::new(Presses);
+        for _ in 0..TASKS {
+            let small = some_task(self.alloc, &mut self.chance)?;
+            let made = task_of(self.alloc, &small)?;
+            let case = Case { small, made };
+            self.searches(&mut by_time, &case);
+            self.searches(&mut by_presses, &case);
+            self.markings(&case)?;
+            self.books(&case)?;
+        }
+        Ok(())
     }
 }
 
 fn run(rt: &HostRuntime) -> anyhow::Result<()> {
-    let mut chance = Chance::new(20);
-    let mut tally = Tally {
-        searches: 0,
-        found: 0,
-        none: 0,
-        full: 0,
-        markings: 0,
-        refused: 0,
-        read_back: 0,
-        differences: 0,
+    let mut comparison = Comparison {
+        alloc: rt.alloc(),
+        chance: Chance::new(20),
+        tally: Tally::default(),
     };
-    let none = Pressed {
-        presses: 0,
-        tenths: 0,
-    };
-    let mut time_rows = [spare_row(0); SETTINGS];
-    let mut time_queue = [spare_entry(0); SETTINGS];
-    let mut press_rows = [spare_row(none); SETTINGS];
-    let mut press_queue = [spare_entry(none); SETTINGS];
-    compare_tasks(
-        &mut time_rows,
-        &mut time_queue,
-        &mut press_rows,
-        &mut press_queue,
-        &mut chance,
-        &mut tally,
-    );
-    told(rt, tally)
+    comparison.tasks()?;
+    told(rt, comparison.tally)
 }
 
 // What was compared. How many of each kind there were is said on standard error; that none is rare, here.

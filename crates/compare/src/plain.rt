@@ -1,110 +1,105 @@
 // A small task in plain numbers, and an exhaustive search of it: each setting's least cost, relaxed to a fixed
-// point over all settings that can be reached.
+// point over all settings that can be reached. Nothing of the planner is used here.
 ghost use Rattle.std.specs.Prelude.{◌<◌};
 
-// A value for each of four variables; in a condition, an effect or a goal, NONE where there is none.
+use std::alloc::{AllocError, Global};
+
+// A value for each of four variables.
 pub(crate) type Values = [u8; 4];
 
-pub(crate) const NONE: u8 = 9;
-
+// No task has more steps.
 pub(crate) const STEPS: usize = 8;
 
 // Four variables of up to four values.
 pub(crate) const SETTINGS: usize = 256;
 
+// Values for some of the four variables: the conditions or the effects of a step, or a goal.
+#[derive(Clone, Copy)]
+pub(crate) struct Partial {
+    pub(crate) values: [Option<u8>; 4],
+}
+
+impl Partial {
+    // The lowest variable whose value is asked for and is not there.
+    fn missing(&self, values: Values) -> Option<usize> {
+        let mut both = self.values.iter().zip(&values);
+        both.position(|(asked, value)| asked.is_some_and(|asked| asked != *value))
+    }
+
+    // Is each value there that is asked for?
+    pub(crate) fn met(&self, values: Values) -> bool {
+        self.missing(values).is_none()
+    }
+
+    // The value of the variable, if there is one.
+    fn at(&self, variable: usize) -> Option<u8> {
+        self.values.get(variable).copied().flatten()
+    }
+
+    // Do the two ask for different values of a variable?
+    fn differs(&self, other: &Partial) -> bool {
+        let mut both = self.values.iter().zip(&other.values);
+        both.any(|(left, right)| left.is_some() && right.is_some() && left != right)
+    }
+}
+
 #[derive(Clone, Copy)]
 pub(crate) struct Step {
-    pub(crate) conditions: Values,
-    pub(crate) effects: Values,
+    pub(crate) conditions: Partial,
+    pub(crate) effects: Partial,
     pub(crate) tenths: u32,
     pub(crate) presses: u16,
 }
 
-// The first `count` steps are the task's.
-#[derive(Clone, Copy)]
+impl Step {
+    // The values after the step.
+    pub(crate) fn after(&self, values: Values) -> Values {
+        let mut next = values;
+        for (value, effect) in next.iter_mut().zip(&self.effects.values) {
+            *value = effect.unwrap_or(*value);
+        }
+        next
+    }
+}
+
+// A task of these steps. The spare steps are none of the task's: they lie behind its own in the planner's table.
+#[derive(Drop)]
 pub(crate) struct Small {
     pub(crate) sizes: Values,
-    pub(crate) steps: [Step; STEPS],
-    pub(crate) count: usize,
-    pub(crate) goal: Values,
+    pub(crate) steps: Vec<Step>,
+    pub(crate) spare: Vec<Step>,
+    pub(crate) goal: Partial,
     pub(crate) start: Values,
 }
 
 // What is charged first, and what among equals.
-#[derive(Clone, Copy, PartialEq, Eq)]
+#[derive(Clone, Copy, PartialEq, Eq, PartialOrd, Ord, Default)]
 pub(crate) struct Cost {
     pub(crate) first: u64,
     pub(crate) second: u64,
 }
 
-pub(crate) const FREE: Cost = Cost {
-    first: 0,
-    second: 0,
-};
-
-#[derive(Clone, Copy)]
-pub(crate) enum Billing {
-    Time,
-    Presses,
-}
-
-// The least cost known of a setting.
-#[derive(Clone, Copy)]
-pub(crate) struct Known {
-    pub(crate) reached: bool,
-    pub(crate) cost: Cost,
-}
-
-pub(crate) fn at_most(a: Cost, b: Cost) -> bool {
-    a.first < b.first || (a.first == b.first && a.second <= b.second)
-}
-
-pub(crate) fn plus(a: Cost, b: Cost) -> Cost {
-    Cost {
-        first: a.first.saturating_add(b.first),
-        second: a.second.saturating_add(b.second),
-    }
-}
-
-pub(crate) fn price(step: Step, billing: Billing) -> Cost {
-    match billing {
-        Billing::Time => Cost {
-            first: u64::from(step.tenths),
-            second: 0,
-        },
-        Billing::Presses => Cost {
-            first: u64::from(step.presses),
-            second: u64::from(step.tenths),
-        },
-    }
-}
-
-pub(crate) fn met(asked: Values, values: Values) -> bool {
-    for v in 0..4 {
-        if asked[v] != NONE && asked[v] != values[v] {
-            return false;
+impl Cost {
+    pub(crate) fn plus(self, other: Cost) -> Cost {
+        Cost {
+            first: self.first.saturating_add(other.first),
+            second: self.second.saturating_add(other.second),
         }
     }
-    true
 }
 
-pub(crate) fn after(step: Step, values: Values) -> Values {
-    let mut next = values;
-    for v in 0..4 {
-        if step.effects[v] != NONE {
-            next[v] = step.effects[v];
-        }
-    }
-    next
+// What each step costs.
+pub(crate) trait Prices {
+    fn price(&self, step: &Step) -> Cost;
 }
+
+// The least cost known of each setting, where a way to it is known.
+pub(crate) type Costs = [Option<Cost>; SETTINGS];
 
 fn place_of(values: Values) -> usize
     ensures { result < 256 }
 {
-    let a = (values[0] % 4) as usize;
-    let b = (values[1] % 4) as usize;
-    let c = (values[2] % 4) as usize;
-    let d = (values[3] % 4) as usize;
+    let [a, b, c, d] = values.map(|value| (value % 4) as usize);
     64 * a + 16 * b + 4 * c + d
 }
 
@@ -117,58 +112,36 @@ fn values_at(place: usize) -> Values {
     ]
 }
 
-// Notes a way to a setting, if none is known or none so cheap; whether it was noted.
-fn note(costs: &mut [Known; SETTINGS], values: Values, cost: Cost) -> bool {
+// Notes a way to a setting, if none is known or none so cheap.
+fn note(costs: &mut Costs, values: Values, cost: Cost) {
     let place = place_of(values);
-    let known = costs[place];
-    if known.reached && at_most(known.cost, cost) {
-        return false;
+    if costs[place].is_none_or(|known| cost < known) {
+        costs[place] = Some(cost);
     }
-    costs[place] = Known {
-        reached: true,
-        cost,
-    };
-    true
 }
 
-// Takes each step from one setting; whether a cheaper way was noted.
-fn relax(costs: &mut [Known; SETTINGS], small: Small, billing: Billing, place: usize) -> bool {
-    if place >= SETTINGS {
-        return false;
-    }
-    let known = costs[place];
-    if !known.reached {
-        return false;
-    }
-    let values = values_at(place);
-    let mut noted = false;
-    for k in 0..STEPS {
-        let step = small.steps[k];
-        if k < small.count && met(step.conditions, values) {
-            let cost = plus(known.cost, price(step, billing));
-            if note(costs, after(step, values), cost) {
-                noted = true;
-            }
+// Takes each step from a setting of this cost.
+fn relax<P: Prices>(costs: &mut Costs, small: &Small, prices: &P, values: Values, cost: Cost) {
+    for step in &small.steps {
+        if step.conditions.met(values) {
+            note(costs, step.after(values), cost.plus(prices.price(step)));
         }
     }
-    noted
 }
 
-// The least cost of each setting that the start leads to.
-pub(crate) fn exhaust(small: Small, billing: Billing) -> [Known; SETTINGS] {
-    let mut costs = [Known {
-        reached: false,
-        cost: FREE,
-    }; SETTINGS];
-    note(&mut costs, small.start, FREE);
+// The least cost of each setting that the start leads to: rounds of every step from every setting reached, until
+// one changes nothing.
+pub(crate) fn exhaust<P: Prices>(small: &Small, prices: &P) -> Costs {
+    let mut costs = [None; SETTINGS];
+    note(&mut costs, small.start, Cost::default());
     for _ in 0..SETTINGS {
-        let mut noted = false;
-        for place in 0..SETTINGS {
-            if relax(&mut costs, small, billing, place) {
-                noted = true;
+        let before = costs;
+        for (place, known) in before.iter().enumerate() {
+            if let Some(cost) = *known {
+                relax(&mut costs, small, prices, values_at(place), cost);
             }
         }
-        if !noted {
+        if costs == before {
             break;
         }
     }
@@ -176,82 +149,67 @@ pub(crate) fn exhaust(small: Small, billing: Billing) -> [Known; SETTINGS] {
 }
 
 // The least cost of a goal setting.
-pub(crate) fn cheapest(small: Small, costs: &[Known; SETTINGS]) -> Known {
-    let mut best = Known {
-        reached: false,
-        cost: FREE,
-    };
-    for (place, known) in costs.iter().enumerate() {
-        let closer = !best.reached || !at_most(best.cost, known.cost);
-        if known.reached && closer && met(small.goal, values_at(place)) {
-            best = *known;
-        }
-    }
-    best
+pub(crate) fn cheapest(small: &Small, costs: &Costs) -> Option<Cost> {
+    costs
+        .iter()
+        .enumerate()
+        .filter(|(place, _)| small.goal.met(values_at(*place)))
+        .filter_map(|(_, cost)| *cost)
+        .min()
 }
 
 // How many settings are reached at no more than a cost.
-pub(crate) fn within(costs: &[Known; SETTINGS], bound: Cost) -> usize {
-    let mut count: usize = 0;
-    for known in costs {
-        if known.reached && at_most(known.cost, bound) {
-            count = count.saturating_add(1);
-        }
-    }
-    count
-}
-
-// The lowest variable whose value is asked for and is not there, or 4.
-fn missing(asked: Values, values: Values) -> usize {
-    for v in 0..4 {
-        if asked[v] != NONE && asked[v] != values[v] {
-            return v;
-        }
-    }
-    4
-}
-
-// Do the two ask for different values of a variable?
-fn differ(left: Values, right: Values) -> bool {
-    for v in 0..4 {
-        if left[v] != NONE && right[v] != NONE && left[v] != right[v] {
-            return true;
-        }
-    }
-    false
+pub(crate) fn within(costs: &Costs, bound: Cost) -> usize {
+    costs
+        .iter()
+        .filter(|cost| cost.is_some_and(|cost| cost <= bound))
+        .count()
 }
 
 // Does a member of the pruned set call for the other step?
-fn calls(member: Step, other: Step, values: Values) -> bool {
-    let v = missing(member.conditions, values);
-    if v < 4 {
-        return other.effects[v] == member.conditions[v];
+fn calls(member: &Step, other: &Step, values: Values) -> bool {
+    if let Some(v) = member.conditions.missing(values) {
+        return other.effects.at(v) == member.conditions.at(v);
     }
-    differ(other.effects, member.conditions)
-        || differ(other.effects, member.effects)
-        || differ(member.effects, other.conditions)
+    other.effects.differs(&member.conditions)
+        || other.effects.differs(&member.effects)
+        || member.effects.differs(&other.conditions)
+}
+
+// The members, and each step that a member calls for.
+fn grown(
+    alloc: Global,
+    steps: &[Step],
+    members: &[bool],
+    values: Values,
+) -> Result<Vec<bool>, AllocError> {
+    steps
+        .iter()
+        .zip(members)
+        .map(|(other, is_in)| {
+            *is_in
+                || steps
+                    .iter()
+                    .zip(members)
+                    .any(|(member, called)| *called && calls(member, other, values))
+        })
+        .collect(alloc)
 }
 
 // The smallest closed set in a setting: as many rounds of adding what the members call for as there are steps.
-pub(crate) fn closure(small: Small, values: Values) -> [u8; STEPS] {
-    let mut marks = [0; STEPS];
-    let v = missing(small.goal, values);
-    if v < 4 {
-        for i in 0..STEPS {
-            if i < small.count && small.steps[i].effects[v] == small.goal[v] {
-                marks[i] = 1;
-            }
-        }
+pub(crate) fn closure(
+    alloc: Global,
+    small: &Small,
+    values: Values,
+) -> Result<Vec<bool>, AllocError> {
+    let unmet = small.goal.missing(values);
+    let mut members: Vec<bool> = small
+        .steps
+        .iter()
+        .map(|step| unmet.is_some_and(|v| step.effects.at(v) == small.goal.at(v)))
+        .collect(alloc)?;
+    for _ in &small.steps {
+        members = grown(alloc, &small.steps, &members, values)?;
     }
-    for _ in 0..STEPS {
-        for j in 0..STEPS {
-            for i in 0..STEPS {
-                let called = marks[j] == 1 && calls(small.steps[j], small.steps[i], values);
-                if i < small.count && called {
-                    marks[i] = 1;
-                }
-            }
-        }
-    }
-    marks
+    Ok(members)
 }

@@ -1,23 +1,35 @@
 // Searches by the session.
 use crate::chance::Chance;
 use crate::made::Made;
-use crate::plain::{Cost, SETTINGS};
+use crate::plain::{Cost, Prices, SETTINGS, STEPS, Step};
 use rules::Rule;
 use search::{
     Advanced, Ended, Entry, Refused, Rest, Row, Search, Tables, Taken, Waiting, advance, begin,
     take,
 };
+use std::alloc::Global;
+use std::ops::ControlFlow;
 use tariff::{Pressed, Presses, Tariff, Time};
 use task::{Action, Setting};
 
-// A tariff whose charges can be written as costs.
-pub(crate) trait Billed<C>: Tariff<Charge = C> {
-    fn charge_of(&self, cost: Cost) -> C;
+// A tariff whose charges can be written as costs, with its prices in plain numbers. No `From`: what a number says
+// in costs hangs on the tariff, and two tariffs may share a kind of charge.
+pub(crate) trait Billed: Tariff + Prices {
+    fn charge_of(&self, cost: Cost) -> Self::Charge;
 
-    fn cost_of(&self, charge: C) -> Cost;
+    fn cost_of(&self, charge: Self::Charge) -> Cost;
 }
 
-impl Billed<u64> for Time {
+impl Prices for Time {
+    fn price(&self, step: &Step) -> Cost {
+        Cost {
+            first: u64::from(step.tenths),
+            second: 0,
+        }
+    }
+}
+
+impl Billed for Time {
     fn charge_of(&self, cost: Cost) -> u64 {
         cost.first
     }
@@ -30,7 +42,16 @@ impl Billed<u64> for Time {
     }
 }
 
-impl Billed<Pressed> for Presses {
+impl Prices for Presses {
+    fn price(&self, step: &Step) -> Cost {
+        Cost {
+            first: u64::from(step.presses),
+            second: u64::from(step.tenths),
+        }
+    }
+}
+
+impl Billed for Presses {
     fn charge_of(&self, cost: Cost) -> Pressed {
         Pressed {
             presses: (cost.first & 0xffff_ffff) as u32,
@@ -46,16 +67,6 @@ impl Billed<Pressed> for Presses {
     }
 }
 
-// How a search ended.
-#[derive(Clone, Copy)]
-pub(crate) enum End {
-    Found(Cost),
-    NoPlan,
-    Full,
-    Refused,
-    Endless,
-}
-
 // An action that was taken, and the cost of what remained.
 #[derive(Clone, Copy)]
 pub(crate) struct Went {
@@ -63,25 +74,33 @@ pub(crate) struct Went {
     pub(crate) remaining: Cost,
 }
 
-// The first `length` of the actions taken are the plan.
+// How a search ended: with a plan's cost and its actions, with no plan, with no row left.
+#[derive(Drop)]
+pub(crate) enum End {
+    Found(Cost, Vec<Went>),
+    NoPlan,
+    Full,
+}
+
+// Why a search did not end.
 #[derive(Clone, Copy)]
-pub(crate) struct Ran {
-    pub(crate) end: End,
-    pub(crate) went: [Went; SETTINGS],
-    pub(crate) length: usize,
+pub(crate) enum Failure {
+    Refused,
+    Endless,
+    Memory,
 }
 
 // Takes the plan's actions one by one, and gives the search up; the last Take is refused.
-fn take_all<C: Copy, B: Billed<C>>(
+fn take_all<B: Billed>(
+    alloc: Global,
     tariff: &B,
     actions: &[Action],
     plan: &[u16],
-    ended: Ended<C>,
-    went: &mut [Went],
-) -> (Rest, usize) {
+    ended: Ended<B::Charge>,
+) -> Result<Vec<Went>, Failure> {
     let mut phase = ended;
-    let room = went.len();
-    for i in 0..room {
+    let mut went = Vec::new(alloc);
+    for _ in 0..SETTINGS {
         match take(tariff, actions, plan, phase) {
             Ok(taken) => {
                 let Taken {
@@ -90,145 +109,152 @@ fn take_all<C: Copy, B: Billed<C>>(
                     remaining,
                 } = taken;
                 let remaining = tariff.cost_of(remaining);
-                went[i] = Went {
-                    action: action as usize,
-                    remaining,
-                };
+                let action = action as usize;
                 phase = ended;
+                if went.push(Went { action, remaining }).is_err() {
+                    let _ = phase.abandon().into_task();
+                    return Err(Failure::Memory);
+                }
             }
-            Err(refused) => {
-                let Refused { phase, refusal: _ } = refused;
-                return (phase.abandon(), i);
-            }
-        }
-    }
-    (phase.abandon(), room)
-}
-
-// The search so far, or its end with the length of its plan.
-enum Stood<C> {
-    Going(Search<C>),
-    Over(End, usize),
-}
-
-// What an Advance came to.
-fn outcome<C: Copy, B: Billed<C>>(
-    tariff: &B,
-    actions: &[Action],
-    plan: &[u16],
-    advanced: Advanced<C>,
-    went: &mut [Went],
-) -> Stood<C> {
-    match advanced {
-        Advanced::Working(search, _) => Stood::Going(search),
-        Advanced::Found(ended, charge, _) => {
-            let (rest, length) = take_all(tariff, actions, plan, ended, went);
-            let _ = rest.into_task();
-            Stood::Over(End::Found(tariff.cost_of(charge)), length)
-        }
-        Advanced::NoPlan(ended, _) => {
-            let _ = ended.abandon().into_task();
-            Stood::Over(End::NoPlan, 0)
-        }
-        Advanced::Full(ended, _) => {
-            let _ = ended.abandon().into_task();
-            Stood::Over(End::Full, 0)
-        }
-    }
-}
-
-// Advances a search by chance amounts of steps until it ends.
-fn run_out<C: Copy, B: Billed<C>, R: Rule>(
-    tariff: &B,
-    rule: &R,
-    made: &Made,
-    begun: Search<C>,
-    rows: &mut [Row<C>],
-    queue: &mut [Entry<C>],
-    plan: &mut [u16],
-    marks: &mut [u8],
-    work: &mut [u8],
-    went: &mut [Went],
-    chance: &mut Chance,
-) -> (End, usize) {
-    let mut search = begun;
-    for _ in 0..2000 {
-        let lent = Tables {
-            rows: &mut *rows,
-            queue: &mut *queue,
-            plan: &mut *plan,
-            marks: &mut *marks,
-            work: &mut *work,
-        };
-        let steps = chance.below(6) as usize;
-        match advance(tariff, rule, &made.table, search, lent, steps) {
-            Ok(advanced) => match outcome(tariff, &made.table, plan, advanced, went) {
-                Stood::Going(next) => search = next,
-                Stood::Over(end, length) => return (end, length),
-            },
             Err(refused) => {
                 let Refused { phase, refusal: _ } = refused;
                 let _ = phase.abandon().into_task();
-                return (End::Refused, 0);
+                return Ok(went);
             }
         }
     }
-    let _ = search.abandon().into_task();
-    (End::Endless, 0)
+    let _ = phase.abandon().into_task();
+    Ok(went)
 }
 
-// One search of the task from the start, over the first of these rows.
-pub(crate) fn search_by<C: Copy, B: Billed<C>, R: Rule>(
+// What an Advance came to: the search goes on, or is over.
+fn outcome<B: Billed>(
+    alloc: Global,
     tariff: &B,
-    rule: &R,
-    made: &Made,
-    start: Setting,
-    bound: Cost,
-    rows: &mut [Row<C>],
-    queue: &mut [Entry<C>],
-    chance: &mut Chance,
-) -> Ran {
-    let mut went = [Went {
-        action: 9,
-        remaining: bound,
-    }; SETTINGS];
-    let mut plan = [0; SETTINGS];
-    let mut marks = [9; 8];
-    let mut work = [9; 4096];
-    let lent = Tables {
-        rows: &mut *rows,
-        queue: &mut *queue,
-        plan: &mut plan,
-        marks: &mut marks,
-        work: &mut work,
-    };
-    let charge = tariff.charge_of(bound);
-    let (end, length) = match begin(tariff, Rest::new(made.task), lent, start, charge) {
-        Ok(search) => run_out(
-            tariff, rule, made, search, rows, queue, &mut plan, &mut marks, &mut work, &mut went,
-            chance,
-        ),
-        Err(refused) => {
-            let Refused { phase, refusal: _ } = refused;
-            let _ = phase.into_task();
-            (End::Refused, 0)
+    actions: &[Action],
+    plan: &[u16],
+    advanced: Advanced<B::Charge>,
+) -> ControlFlow<Result<End, Failure>, Search<B::Charge>> {
+    match advanced {
+        Advanced::Working(search, _) => ControlFlow::Continue(search),
+        Advanced::Found(ended, charge, _) => {
+            let cost = tariff.cost_of(charge);
+            let went = take_all(alloc, tariff, actions, plan, ended);
+            ControlFlow::Break(went.map(|went| End::Found(cost, went)))
         }
-    };
-    Ran { end, went, length }
-}
-
-// What a row and an entry may hold before a search.
-pub(crate) fn spare_row<C: Copy>(charge: C) -> Row<C> {
-    Row {
-        setting: [7; 64],
-        charge,
-        closed: true,
-        origin: 9,
-        action: 9,
+        Advanced::NoPlan(ended, _) => {
+            let _ = ended.abandon().into_task();
+            ControlFlow::Break(Ok(End::NoPlan))
+        }
+        Advanced::Full(ended, _) => {
+            let _ = ended.abandon().into_task();
+            ControlFlow::Break(Ok(End::Full))
+        }
     }
 }
 
-pub(crate) fn spare_entry<C: Copy>(charge: C) -> Entry<C> {
-    let waiting = Waiting { charge, row: 9 };
-    Entry { waiting, place: 9 }
+// A tariff, and tables for its searches. The rows and the queue keep what the last search left in them.
+#[derive(Drop)]
+pub(crate) struct Planner<B: Billed> {
+    pub(crate) tariff: B,
+    rows: [Row<B::Charge>; SETTINGS],
+    queue: [Entry<B::Charge>; SETTINGS],
+    plan: [u16; SETTINGS],
+    marks: [u8; STEPS],
+    work: [u8; 4096],
+}
+
+impl<B: Billed> Planner<B> {
+    pub(crate) fn new(tariff: B) -> Self {
+        let charge = tariff.zero();
+        let row = Row {
+            setting: [7; 64],
+            charge,
+            closed: true,
+            origin: 9,
+            action: 9,
+        };
+        let waiting = Waiting { charge, row: 9 };
+        let entry = Entry { waiting, place: 9 };
+        Planner {
+            tariff,
+            rows: [row; SETTINGS],
+            queue: [entry; SETTINGS],
+            plan: [0; SETTINGS],
+            marks: [9; STEPS],
+            work: [9; 4096],
+        }
+    }
+
+    // Advances a search by chance amounts of steps until it ends. Its parameters are those of `search`.
+    fn run_out<R: Rule>(
+        &mut self,
+        alloc: Global,
+        rule: &R,
+        made: &Made,
+        begun: Search<B::Charge>,
+        places: usize,
+        chance: &mut Chance,
+    ) -> Result<End, Failure> {
+        let mut search = begun;
+        for _ in 0..2000 {
+            let rows = &mut self.rows[..];
+            let lent = Tables {
+                rows: &mut rows[0..places.min(SETTINGS)],
+                queue: &mut self.queue,
+                plan: &mut self.plan,
+                marks: &mut self.marks,
+                work: &mut self.work,
+            };
+            let steps = chance.below(6) as usize;
+            match advance(&self.tariff, rule, &made.table, search, lent, steps) {
+                Ok(advanced) => {
+                    match outcome(alloc, &self.tariff, &made.table, &self.plan, advanced) {
+                        ControlFlow::Continue(next) => search = next,
+                        ControlFlow::Break(end) => return end,
+                    }
+                }
+                Err(refused) => {
+                    let Refused { phase, refusal: _ } = refused;
+                    let _ = phase.abandon().into_task();
+                    return Err(Failure::Refused);
+                }
+            }
+        }
+        let _ = search.abandon().into_task();
+        Err(Failure::Endless)
+    }
+
+    // One search of the task from the start, over the first rows. Each parameter is another at each call.
+    pub(crate) fn search<R: Rule>(
+        &mut self,
+        alloc: Global,
+        rule: &R,
+        made: &Made,
+        start: Setting,
+        bound: Cost,
+        places: usize,
+        chance: &mut Chance,
+    ) -> Result<End, Failure> {
+        self.plan = [0; SETTINGS];
+        self.marks = [9; STEPS];
+        self.work = [9; 4096];
+        let charge = self.tariff.charge_of(bound);
+        let rows = &mut self.rows[..];
+        let lent = Tables {
+            rows: &mut rows[0..places.min(SETTINGS)],
+            queue: &mut self.queue,
+            plan: &mut self.plan,
+            marks: &mut self.marks,
+            work: &mut self.work,
+        };
+        match begin(&self.tariff, Rest::new(made.task), lent, start, charge) {
+            Ok(search) => self.run_out(alloc, rule, made, search, places, chance),
+            Err(refused) => {
+                let Refused { phase, refusal: _ } = refused;
+                let _ = phase.into_task();
+                Err(Failure::Refused)
+            }
+        }
+    }
 }

@@ -1,3 +1,2 @@
-pub mod Smalls
-pub mod Values
 pub mod Lefts
+pub mod Values

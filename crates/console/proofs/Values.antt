@@ -1,36 +1,21 @@
 -- Values of a setting, field by field.
-use Rattle.std.proofs.Common.{◌≡◌, ℕ, zero, suc, ◌+◌, ◌-◌, ◌<◌, ◌≤◌, List, [], ◌∷◌, set, Some, None, Option, sym, refl, ap, ◌∙◌, arith}
+use Rattle.std.proofs.Common.{◌≡◌, ℕ, suc, ◌+◌, ◌-◌, ◌<◌, Bool, true, false, not, List, [], ◌∷◌, ◌++◌, length, set, is_some, Some, None, Option, MatchOption, sym, ap, ◌∙◌, arith, Bor}
+use Rattle.std.specs.Bool.{then_some}
+use Rattle.std.proofs.lemmas.List.{set-append_left}
 use Rattle.console.specs.Commands.{then, small, values}
-
-missing : (n v : ℕ) (s : List ℕ) → 0 < n → values n v s [] ≡ None
-missing zero v s h = absurd (omega arith)
-missing (suc n) v s h = refl
 
 one : (n m v : ℕ) (s field : List ℕ) (more : List (List ℕ)) → n ≡ suc m → values n v s (field ∷ more) ≡ then (small field) (λ x. values m (v + 1) (set s v x) more)
 one n m v s field more e = ap (λ k. values k v s (field ∷ more)) e
 
-none_but : (n v : ℕ) (s field : List ℕ) (more : List (List ℕ)) → n ≡ 0 → values n v s (field ∷ more) ≡ None
-none_but n v s field more e = ap (λ k. values k v s (field ∷ more)) e
+-- one value more, among those that lie in front of the rest of the setting
+pub one_value : (count v : ℕ) (front rest : List ℕ) (fields : List (List ℕ)) (whole : Option (List ℕ)) → values (count - v) v (front ++ rest) fields ≡ whole → v < count → length front ≡ count → (field : List ℕ) (more : List (List ℕ)) → fields ≡ field ∷ more → (x : ℕ) → Some x ≡ small field → values (count - (v + 1)) (v + 1) (set front v x ++ rest) more ≡ whole
+one_value count v front rest fields whole is within long field more e x o =
+    let within_front : v < length front = omega arith in
+    ap (λ s. values (count - (v + 1)) (v + 1) s more) (sym (set-append_left front rest v x within_front)) ∙ ap (λ r. then r (λ x. values (count - (v + 1)) (v + 1) (set (front ++ rest) v x) more)) o ∙ sym (one (count - v) (count - (v + 1)) v (front ++ rest) field more (omega arith)) ∙ ap (values (count - v) v (front ++ rest)) (sym e) ∙ is
 
-module _ (count v : ℕ) (s : List ℕ) (fields : List (List ℕ)) (whole : Option (List ℕ)) (is : values (count - v) v s fields ≡ whole) where
-  pub too_few : v < count → fields ≡ [] → None ≡ whole
-  too_few h e = sym (missing (count - v) v s (omega arith)) ∙ ap (values (count - v) v s) (sym e) ∙ is
-
-  pub too_many : count ≤ v → (field : List ℕ) (more : List (List ℕ)) → fields ≡ field ∷ more → None ≡ whole
-  too_many h field more e = sym (none_but (count - v) v s field more (omega arith)) ∙ ap (values (count - v) v s) (sym e) ∙ is
-
-  pub all_read : count ≤ v → fields ≡ [] → Some s ≡ whole
-  all_read h e = sym (ap (λ k. values k v s []) zero_left) ∙ ap (values (count - v) v s) (sym e) ∙ is
-    where
-      zero_left : count - v ≡ 0
-      zero_left = omega arith
-
-  module _ (h : v < count) (field : List ℕ) (more : List (List ℕ)) (e : fields ≡ field ∷ more) where
-    step : then (small field) (λ x. values (count - (v + 1)) (v + 1) (set s v x) more) ≡ whole
-    step = sym (one (count - v) (count - (v + 1)) v s field more (omega arith)) ∙ ap (values (count - v) v s) (sym e) ∙ is
-
-    pub not_small : None ≡ small field → None ≡ whole
-    not_small o = ap (λ r. then r (λ x. values (count - (v + 1)) (v + 1) (set s v x) more)) o ∙ step
-
-    pub one_value : (x : ℕ) → Some x ≡ small field → values (count - (v + 1)) (v + 1) (set s v x) more ≡ whole
-    one_value x o = ap (λ r. then r (λ x. values (count - (v + 1)) (v + 1) (set s v x) more)) o ∙ step
+-- no field is left after the last value
+pub all_read : (v : ℕ) (s : List ℕ) (fields more : List (List ℕ)) (next : Option (Bor (List ℕ))) (bare : Bool) → MatchOption next ((fields ≡ []) × (more ≡ [])) (λ x. fields ≡ x.now ∷ more) → is_some next ≡ not bare → then_some bare s ≡ values 0 v s fields
+all_read v s fields more None true h e = sym (ap (values 0 v s) h.0)
+all_read v s fields more None false h e = absurd (let z : ◌≡◌ {A = ℕ} 0 1 = cc in omega arith)
+all_read v s fields more (Some x) true h e = absurd (let z : ◌≡◌ {A = ℕ} 0 1 = cc in omega arith)
+all_read v s fields more (Some x) false h e = sym (ap (values 0 v s) h)

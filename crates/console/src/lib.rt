@@ -2,11 +2,10 @@
 #![tactic(auto)]
 
 mod command;
+mod fields;
 mod lines;
-mod output;
 mod reply;
 
 pub use command::Command;
 pub use lines::command_of;
-pub use output::words_of;
-pub use reply::Reply;
+pub use reply::{Reply, words_of};

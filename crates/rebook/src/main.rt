@@ -3,33 +3,7 @@
 
 use book::{read, write};
 use std::fs;
-use task::{Action, Atom, Atoms, Refusal, Task};
-
-// The bytes of the book; a file that cannot be read is an empty book.
-fn book(rt: &HostRuntime) -> Vec<u8> {
-    match fs::read(rt, "bench.bk") {
-        Ok(bytes) => bytes,
-        Err(_) => Vec::new(rt.alloc()),
-    }
-}
-
-// What a place of the table holds before a book is read.
-fn spare() -> Action {
-    Action {
-        tenths: 0,
-        presses: 0,
-        conditions: Atoms::<16>::none(),
-        effects: Atoms::<16>::none(),
-    }
-}
-
-fn show_refusal(rt: &HostRuntime, refusal: Refusal) -> anyhow::Result<()> {
-    let number = refusal.number();
-    let layer = refusal.layer();
-    let place = refusal.place;
-    println!(rt; "refused: number {number}, layer {layer}, place {place}")?;
-    Ok(())
-}
+use task::{Action, Atom, Task};
 
 // The atoms, each as its variable and its value.
 fn show_atoms(rt: &HostRuntime, atoms: &[Atom]) -> anyhow::Result<()> {
@@ -37,9 +11,7 @@ fn show_atoms(rt: &HostRuntime, atoms: &[Atom]) -> anyhow::Result<()> {
         print!(rt; " nothing")?;
     }
     for atom in atoms {
-        let variable = atom.variable;
-        let value = atom.value;
-        print!(rt; " {variable}={value}")?;
+        print!(rt; " {atom}")?;
     }
     Ok(())
 }
@@ -56,8 +28,7 @@ fn show_action(rt: &HostRuntime, number: usize, action: &Action) -> anyhow::Resu
 }
 
 fn show(rt: &HostRuntime, task: &Task, actions: &[Action]) -> anyhow::Result<()> {
-    for variable in 0..task.variables {
-        let values = task.sizes[variable];
+    for (variable, values) in task.sizes.iter().take(task.variables).enumerate() {
         println!(rt; "variable {variable}: {values} values")?;
     }
     for (number, action) in actions.iter().take(task.actions).enumerate() {
@@ -69,26 +40,37 @@ fn show(rt: &HostRuntime, task: &Task, actions: &[Action]) -> anyhow::Result<()>
     Ok(())
 }
 
-fn run(rt: &HostRuntime) -> anyhow::Result<()> {
-    let book = book(rt);
-    let size = book.len();
-    let mut actions = [spare(); 1024];
-    let task = match read(book.as_slice(), &mut actions) {
-        Ok(task) => task,
-        Err(refusal) => return show_refusal(rt, refusal),
-    };
-    println!(rt; "book of {size} bytes")?;
-    show(rt, &task, &actions)?;
-    let mut out = vec![in rt.alloc(); 0u8; size]?;
-    match write(&task, &actions, out.as_mut_slice()) {
+// Writes the task again, and says whether the bytes are those of the book.
+fn write_again(
+    rt: &HostRuntime,
+    task: &Task,
+    actions: &[Action],
+    book: &[u8],
+) -> anyhow::Result<()> {
+    let mut out = vec![in rt.alloc(); 0u8; book.len()]?;
+    match write(task, actions, out.as_mut_slice()) {
         Ok(length) => {
-            if length == size && out.as_slice() == book.as_slice() {
-                println!(rt; "written again: {length} bytes, the same")?;
-            } else {
-                println!(rt; "written again: {length} bytes, not the same")?;
-            }
+            let same = out.as_slice() == book && length == book.len();
+            let words = if same { "the same" } else { "not the same" };
+            println!(rt; "written again: {length} bytes, {words}")?;
         }
-        Err(refusal) => show_refusal(rt, refusal)?,
+        Err(refusal) => println!(rt; "{refusal}")?,
+    }
+    Ok(())
+}
+
+fn run(rt: &HostRuntime) -> anyhow::Result<()> {
+    // A file that cannot be read is an empty book.
+    let book = fs::read(rt, "bench.bk").unwrap_or_else(|_| Vec::new(rt.alloc()));
+    let mut actions = [Action::default(); 1024];
+    match read(book.as_slice(), &mut actions) {
+        Ok(task) => {
+            let size = book.len();
+            println!(rt; "book of {size} bytes")?;
+            show(rt, &task, &actions)?;
+            write_again(rt, &task, &actions, book.as_slice())?;
+        }
+        Err(refusal) => println!(rt; "{refusal}")?,
     }
     Ok(())
 }

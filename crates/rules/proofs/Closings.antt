@@ -1,18 +1,17 @@
 -- Marks that are closed and lie inside the smallest closed set are its marks.
-use Rattle.std.proofs.Common.{◌≡◌, ℕ, ◌<◌, ◌≤◌, Bool, true, false, cond, eqb, List, map, length, get_or, sym, refl, ap, ◌∙◌, inl, inr, arith}
+use Rattle.std.proofs.Common.{◌≡◌, ℕ, ◌<◌, ◌≤◌, Bool, true, false, cond, eqb, List, length, get_or, refl, ◌∙◌, inl, inr, arith}
 use lib.ListN.{length-map}
 use Rattle.std.specs.List.{AllByRecursion}
 use Rattle.std.proofs.ByRecursion.{All-get_or}
-use Rattle.std.proofs.lemmas.List.{length-take-le, get_or-take, get_or_past, take-map}
+use Rattle.std.proofs.lemmas.List.{length-take-le, get_or_past}
 use Rattle.std.proofs.lemmas.Bool.{eqb-true, eq-eqb, cases_lt, both_ways}
 use Rattle.task.specs.declared.data.Action.{Action}
 use Rattle.task.specs.declared.data.Task.{Task}
 use Rattle.task.specs.Settings.{unmet}
-use Rattle.task.specs.Benches.{Bench, Act, act_of, idle, act, bench_of}
+use Rattle.task.specs.Benches.{Bench, act, bench_of}
 use Rattle.rules.specs.Marks.{Marked}
-use Rattle.rules.specs.Sets.{Closed, wants, called, calls, stubborn}
+use Rattle.rules.specs.Sets.{Closed, wants, calls, stubborn}
 use Rattle.rules.specs.Grows.{closed_by, stubborn_smallest}
-use Rattle.rules.specs.Queues.{act_at, calling}
 
 -- a mark past the last is none
 pub within : (bytes : List ℕ) (k : ℕ) → get_or bytes k 0 ≡ 1 → k < length bytes
@@ -38,10 +37,3 @@ marks_are b s bytes as_many bits start along inside k low = by (stubborn b s k) 
 -- the bench of a task has the actions of its table
 pub bench_length : (task : Task) (table : List Action) → task.actions ≤ length table → length (bench_of task table).actions ≡ task.actions
 bench_length task table enough = length-map _ _ ∙ length-take-le task.actions table enough
-
-pub bench_act : (task : Task) (table : List Action) (k : ℕ) → k < task.actions → act (bench_of task table) k ≡ act_at table k
-bench_act task table k low = ap (λ l. get_or l k idle) (sym (take-map act_of task.actions table)) ∙ get_or-take task.actions (map act_of table) k idle low
-
-pub bench_calls : (task : Task) (table : List Action) (s : List ℕ) (j i : ℕ) → j < task.actions → i < task.actions → calls (bench_of task table) s j i ≡ calling s table j i
-bench_calls task table s j i low lower =
-    ap (λ (a : Act). called (unmet s a.conditions) a (act (bench_of task table) i)) (bench_act task table j low) ∙ ap (λ (a : Act). called (unmet s (act_at table j).conditions) (act_at table j) a) (bench_act task table i lower)

@@ -9,7 +9,7 @@ use Rattle.task.specs.declared.data.Action.{Action}
 use Rattle.task.specs.Settings.{unmet, some_atom}
 use Rattle.task.specs.Benches.{Act}
 use Rattle.rules.specs.Queues.{act_at}
-use Rattle.rules.specs.Waits.{place, waits, due, asks, asking, touches, Wrote, Covers, Waiting, Handled, Passed, Swept}
+use Rattle.rules.specs.Waits.{place, waits, due, asks, asking, touches, Wrote, Covers, Waiting, Handled, Passed}
 use Rattle.rules.proofs.Closings.{within}
 use Rattle.rules.proofs.Writes.{wrote_stays, wrote_new}
 
@@ -79,15 +79,13 @@ module _ (sizes s : List ℕ) (table : List Action) where
           ];
     }
 
-  pub passed_none : {marks work : List ℕ} → AllByRecursion (λ x. x ≤ 1) marks → Passed sizes s table 0 marks work false marks work
-  passed_none bits = record { as_many = refl; room = refl; bits = bits; keeps = λ root w. w; some = λ e. absurd (both_ways _ refl e); none = λ e. (refl, refl, λ k h. absurd (omega arith)) }
-
   module _ {marks work marks' work' : List ℕ} {more : Bool} (i : ℕ) (p : Passed sizes s table i marks work more marks' work') where
     no_less : sum marks ≤ sum marks'
     no_less = elim (cases_Bool more) [ inl e ↦ omega (arith, p.some e) | inr e ↦ (let q = ap sum (p.none e).0 in omega arith) ]
 
-    pub passed_more : {marks'' work'' : List ℕ} → i < length marks → Handled sizes s (act_at table i) i marks' work' marks'' work'' true → Passed sizes s table (i + 1) marks work true marks'' work''
-    passed_more {marks''} {work''} low h =
+    pub passed_more : {marks'' work'' : List ℕ} (a : Act) → act_at table i ≡ a → i < length marks → Handled sizes s a i marks' work' marks'' work'' true → Passed sizes s table (i + 1) marks work true marks'' work''
+    passed_more {marks''} {work''} a is low handled =
+        let h = subst (λ (b : Act). Handled sizes s b i marks' work' marks'' work'' true) (sym is) handled in
         let lower = subst (λ n. i < n) (sym p.as_many) low in
         let grown = sum_by-set (λ x. x) marks' i 1 0 lower in
         subst (λ m. Passed sizes s table (i + 1) marks work true m work'') (sym h.2)
@@ -100,8 +98,9 @@ module _ (sizes s : List ℕ) (table : List Action) where
           none = λ e. absurd (both_ways _ e refl);
         })
 
-    pub passed_skip : {marks'' work'' : List ℕ} → Handled sizes s (act_at table i) i marks' work' marks'' work'' false → Passed sizes s table (i + 1) marks work more marks'' work''
-    passed_skip {marks''} {work''} h =
+    pub passed_skip : {marks'' work'' : List ℕ} (a : Act) → act_at table i ≡ a → Handled sizes s a i marks' work' marks'' work'' false → Passed sizes s table (i + 1) marks work more marks'' work''
+    passed_skip {marks''} {work''} a is handled =
+        let h = subst (λ (b : Act). Handled sizes s b i marks' work' marks'' work'' false) (sym is) handled in
         subst (λ m. Passed sizes s table (i + 1) marks work more m work'') (sym h.0)
         (subst (λ v. Passed sizes s table (i + 1) marks work more marks' v) (sym h.1)
         (record {
@@ -113,44 +112,13 @@ module _ (sizes s : List ℕ) (table : List Action) where
           none = λ e. (let n = p.none e in (n.0, n.1, λ k l d. elim (cases_eq k i) [ inl q ↦ subst (λ y. get_or marks y 0 ≡ 1) (sym q) (ap (λ m. get_or m i 0) (sym n.0) ∙ h.2 (ap (λ v. due v (act_at table i)) n.1 ∙ subst (λ y. due work (act_at table y) ≡ true) q d)) | inr q ↦ n.2 k (omega arith) d ]));
         }))
 
-    pub passed_all : {n : ℕ} → n ≤ i → Passed sizes s table n marks work more marks' work'
-    passed_all far = record {
-      as_many = p.as_many;
-      room = p.room;
-      bits = p.bits;
-      keeps = p.keeps;
-      some = p.some;
-      none = λ e. (let n = p.none e in (n.0, n.1, λ k l d. n.2 k (omega arith) d));
-    }
-
   -- passes one after another
-  pub record Sweeping (marks work : List ℕ) (more : Bool) (marks' work' : List ℕ) : Type 0 where
+  pub record Sweeping (marks work marks' work' : List ℕ) : Type 0 where
     pub as_many : length marks' ≡ length marks
     pub room : length work' ≡ length work
     pub bits : AllByRecursion (λ x. x ≤ 1) marks'
     pub keeps : (root : ℕ → Bool) → Waiting root sizes s table marks work → Waiting root sizes s table marks' work'
-    pub done : more ≡ false → (k : ℕ) → k < length marks → due work' (act_at table k) ≡ true → get_or marks' k 0 ≡ 1
 
-  pub sweeping_none : {marks work : List ℕ} → AllByRecursion (λ x. x ≤ 1) marks → Sweeping marks work true marks work
-  sweeping_none bits = record { as_many = refl; room = refl; bits = bits; keeps = λ root w. w; done = λ e. absurd (both_ways _ e refl) }
-
-  module _ {marks work marks' work' marks'' work'' : List ℕ} {before more : Bool} (g : Sweeping marks work before marks' work') (p : Passed sizes s table (length marks') marks' work' more marks'' work'') where
-    pub sweeping_more : Sweeping marks work more marks'' work''
-    sweeping_more = record {
-      as_many = p.as_many ∙ g.as_many;
-      room = p.room ∙ g.room;
-      bits = p.bits;
-      keeps = λ root w. p.keeps root (g.keeps root w);
-      done = λ e k l d. (let n = p.none e in ap (λ m. get_or m k 0) n.0 ∙ n.2 k (subst (λ x. k < x) (sym g.as_many) l) (ap (λ v. due v (act_at table k)) (sym n.1) ∙ d));
-    }
-
-    pub sweeping_less : (length marks - sum marks'') + cond more 1 0 < (length marks - sum marks') + 1
-    sweeping_less =
-        let h = sum_by_le (λ x. x) 1 marks'' p.bits in
-        elim (cases_Bool more) [
-          | inl e ↦ (let c : cond {A = ℕ} more 1 0 ≡ 1 = ap (λ b. cond b 1 0) e in omega (arith, p.some e, p.as_many, g.as_many))
-          | inr e ↦ (let c : cond {A = ℕ} more 1 0 ≡ 0 = ap (λ b. cond b 1 0) e in let q = ap sum (p.none e).0 in omega arith)
-        ]
-
-  pub sweeping_all : {marks work marks' work' : List ℕ} → Sweeping marks work false marks' work' → Swept sizes s table marks work marks' work'
-  sweeping_all g = record { as_many = g.as_many; room = g.room; bits = g.bits; keeps = g.keeps; all = g.done refl }
+  module _ {marks work marks' work' marks'' work'' : List ℕ} {more : Bool} (g : Sweeping marks work marks' work') (p : Passed sizes s table (length marks') marks' work' more marks'' work'') where
+    pub sweeping_less : more ≡ true → length marks - sum marks'' < length marks - sum marks'
+    sweeping_less e = omega (arith, sum_by_le (λ x. x) 1 marks'' p.bits, p.some e, p.as_many, g.as_many)

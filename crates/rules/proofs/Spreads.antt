@@ -1,6 +1,5 @@
 -- Along the line, each member once.
-use Rattle.std.proofs.Common.{◌≡◌, ℕ, ◌+◌, ◌<◌, ◌≤◌, Bool, true, cond, List, length, get_or, Some, None, sym, refl, ap, ◌∙◌, subst, inl, inr, arith}
-use Rattle.std.proofs.ByRecursion.{All-from_get_or, sum_by_le}
+use Rattle.std.proofs.Common.{◌≡◌, ℕ, ◌+◌, ◌<◌, ◌≤◌, Bool, true, cond, List, length, get_or, take, Some, None, sym, ap, ◌∙◌, subst, inl, inr, arith}
 use Rattle.task.specs.declared.data.Atom.{Atom}
 use Rattle.task.specs.declared.data.Action.{Action}
 use Rattle.task.specs.declared.data.Task.{Task}
@@ -12,7 +11,7 @@ use Rattle.rules.specs.Sets.{wants, calls, stubborn}
 use Rattle.rules.specs.Grows.{stubborn_smallest, stubborn_goal, closed_along, none_met}
 use Rattle.std.proofs.lemmas.Bool.{cases_eq}
 use Rattle.rules.specs.Queues.{act_at, calling, number_at, Line, Joined, Spread}
-use Rattle.rules.proofs.Closings.{within, marks_are, bench_length, bench_act, bench_calls}
+use Rattle.rules.proofs.Closings.{within, marks_are, bench_length}
 
 -- the members before the head have been served
 pub record Going (call : ℕ → ℕ → Bool) (marks₀ marks work : List ℕ) (head tail : ℕ) : Type 0 where
@@ -22,19 +21,6 @@ pub record Going (call : ℕ → ℕ → Bool) (marks₀ marks work : List ℕ) 
   pub stay : (k : ℕ) → get_or marks₀ k 0 ≡ 1 → get_or marks k 0 ≡ 1
   pub served : (p : ℕ) → p < head → (i : ℕ) → i < length marks₀ → call (number_at work p) i ≡ true → get_or marks i 0 ≡ 1
   pub least : (member : ℕ → Bool) → ((k : ℕ) → get_or marks₀ k 0 ≡ 1 → member k ≡ true) → ((j i : ℕ) → j < length marks₀ → i < length marks₀ → member j ≡ true → call j i ≡ true → member i ≡ true) → (k : ℕ) → k < length marks₀ → get_or marks k 0 ≡ 1 → member k ≡ true
-
-pub line_none : {marks work : List ℕ} → length work ≡ 4096 → length marks ≤ 1024 → Zeros marks → Line marks work 0
-line_none {marks} room few zeros = record {
-  room = room;
-  few = few;
-  bits = All-from_get_or (λ x. x ≤ 1) marks 0 (λ i l. omega (arith, zeros i l));
-  counted = (let h = sum_by_le (λ x. x) 0 marks (All-from_get_or (λ x. x ≤ 0) marks 0 (λ i l. omega (arith, zeros i l))) in omega arith);
-  listed = λ k l e. absurd (omega (arith, zeros k l));
-  valid = λ p h. absurd (omega arith);
-}
-
-pub going_none : (call : ℕ → ℕ → Bool) {marks work : List ℕ} {tail : ℕ} → Line marks work tail → Going call marks marks work 0 tail
-going_none call l = record { line = l; passed = omega arith; as_many = refl; stay = λ k e. e; served = λ p h. absurd (omega arith); least = λ member from along k h e. from k e }
 
 module _ {call : ℕ → ℕ → Bool} {marks₀ marks work : List ℕ} {head tail : ℕ} (g : Going call marks₀ marks work head tail) where
   pub going_more : {marks' work' : List ℕ} {tail' : ℕ} → head < tail → Joined (call (number_at work head)) (length marks) marks work tail marks' work' tail' → Going call marks₀ marks' work' (head + 1) tail'
@@ -75,7 +61,7 @@ module _ (task : Task) (table : List Action) (s : List ℕ) where
 
   -- from the achievers of the first unmet goal atom on, along the calls
   pub spread_closes : {marks work marks' work' marks'' : List ℕ} {tail' : ℕ} (g : Atom) → Sized task table (length marks) (length work) → Zeros marks → unmet s (listed task.goal) ≡ Some g
-      → Joined (λ k. achieving (act_at table k) g) (length marks) marks work 0 marks' work' tail' → Spread (calling s table) marks' marks'' → Marked (stubborn (bench_of task table) s) marks''
+      → Joined (λ k. achieving (act_at (take task.actions table) k) g) (length marks) marks work 0 marks' work' tail' → Spread (calling s (take task.actions table)) marks' marks'' → Marked (stubborn (bench_of task table) s) marks''
   spread_closes {marks} {work} {marks'} {work'} {marks''} g sized zeros first j sp = marks_are b s marks'' (many ∙ sym count) sp.bits start along inside
     where
       b : Bench
@@ -87,18 +73,15 @@ module _ (task : Task) (table : List Action) (s : List ℕ) where
       many : length marks'' ≡ task.actions
       many = sp.as_many ∙ j.as_many ∙ sized.0
 
-      at : {k : ℕ} → k < length marks' → k < task.actions
-      at {k} l = subst (λ x. k < x) (j.as_many ∙ sized.0) l
-
       start : (i : ℕ) → i < length b.actions → wants (unmet s b.goal) (act b i) ≡ true → get_or marks'' i 0 ≡ 1
       start i l e =
           let h = subst (λ x. i < x) count l in
-          sp.stay i (j.all i (subst (λ x. i < x) (sym sized.0) h) (ap (λ a. achieving a g) (sym (bench_act task table i h)) ∙ ap (λ o. wants o (act b i)) (sym first) ∙ e))
+          sp.stay i (j.all i (subst (λ x. i < x) (sym sized.0) h) (ap (λ o. wants o (act b i)) (sym first) ∙ e))
 
       along : (p i : ℕ) → i < length b.actions → get_or marks'' p 0 ≡ 1 → calls b s p i ≡ true → get_or marks'' i 0 ≡ 1
       along p i l m e =
           let h = subst (λ x. i < x) count l in
-          sp.along p i (subst (λ x. i < x) (sym (j.as_many ∙ sized.0)) h) m (sym (bench_calls task table s p i (subst (λ x. p < x) many (within marks'' p m)) h) ∙ e)
+          sp.along p i (subst (λ x. i < x) (sym (j.as_many ∙ sized.0)) h) m e
 
       from : (k : ℕ) → get_or marks' k 0 ≡ 1 → stubborn b s k ≡ true
       from k m =
@@ -106,12 +89,12 @@ module _ (task : Task) (table : List Action) (s : List ℕ) where
           let h = subst (λ x. k < x) j.as_many l in
           elim (j.new k h m) [
             | inl o ↦ absurd (omega (arith, zeros k h))
-            | inr q ↦ (stubborn_smallest b s).closed.goals g first k (ap (λ a. achieving a g) (bench_act task table k (at l)) ∙ q)
+            | inr q ↦ (stubborn_smallest b s).closed.goals g first k q
           ]
 
       inside : (k : ℕ) → k < length marks'' → get_or marks'' k 0 ≡ 1 → stubborn b s k ≡ true
       inside k low =
           sp.least (stubborn b s) from
-          (λ p i l h m e. closed_along b s (stubborn b s) (stubborn_smallest b s).closed p i m (bench_calls task table s p i (at l) (at h) ∙ e))
+          (λ p i l h m e. closed_along b s (stubborn b s) (stubborn_smallest b s).closed p i m e)
           k
           (subst (λ x. k < x) sp.as_many low)

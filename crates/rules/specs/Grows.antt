@@ -9,11 +9,11 @@ use Rattle.task.specs.Settings.{holding, met, unmet, clash}
 use Rattle.task.specs.Benches.{Act, Bench, act, idle, achieving, interfering}
 use Rattle.rules.specs.Sets.{Closed, Smallest, wants, called, calls, some_below, each, grown, stubborn}
 
-some_from : (f : ℕ → Bool) (k j : ℕ) → j < k → f j ≡ true → some_below f k ≡ true
+pub some_from : (f : ℕ → Bool) (k j : ℕ) → j < k → f j ≡ true → some_below f k ≡ true
 some_from f zero j l e = absurd (omega arith)
 some_from f (suc k) j l e = elim (cases_eq j k) [ inl q ↦ or_left _ _ (subst (λ x. f x ≡ true) q e) | inr q ↦ or_right _ _ (some_from f k j (omega arith) e) ]
 
-some_at : (f : ℕ → Bool) (k : ℕ) → some_below f k ≡ true → (j : ℕ) × (j < k) × (f j ≡ true)
+pub some_at : (f : ℕ → Bool) (k : ℕ) → some_below f k ≡ true → (j : ℕ) × (j < k) × (f j ≡ true)
 some_at f zero e = absurd (both_ways _ refl e)
 some_at f (suc k) e = elim (or_cases _ _ e) [ inl q ↦ (k, omega arith, q) | inr q ↦ (let x = some_at f k q in (x.0, omega (arith, x.1), x.2)) ]
 

@@ -1,15 +1,15 @@
 // Pruning rules: which actions a search needs to try in a setting.
 #![tactic(auto)]
 
-ghost use Rattle.std.specs.Prelude.{◌≡◌, ℕ, ◌<◌, length, Decides, slice_index};
+ghost use Rattle.std.specs.Prelude.{length, Decides};
 ghost use Rattle.task.specs.Benches.{bench_of};
 ghost use Rattle.rules.specs.Marks.{Marking, Marked, Zeros, Asked};
 ghost use Rattle.rules.specs.Rules.{all_marking, stubborn_marking, Sized, Prunes};
 ghost use Rattle.rules.specs.Sets.{stubborn};
 
-use line::{join_achievers, spread};
-use task::{Action, Setting, Task, first_unmet};
-use waiting::{ACHIEVERS, ask, sweep};
+use line::Queue;
+use task::{Action, Setting, Task, achieves, first_unmet};
+use waiting::{Collection, Pending};
 
 mod line;
 mod waiting;
@@ -33,20 +33,12 @@ pub trait Rule {
         ensures cleared { Zeros work.new };
 }
 
-// The marked set of Atoms and Actions is the smallest closed one, and pruning to it loses no plan.
+// The marked set of Atoms and Actions is the smallest closed one, and pruning to it loses no plan. The number
+// says nothing: what is asked for is the clause.
 pub fn pruning_stands() -> u8
     ensures { Prunes }
 {
     0
-}
-
-// Every byte is the value.
-fn fill(bytes: &mut [u8], value: u8)
-    ensures { (k : ℕ) → k < length bytes.new → slice_index bytes.new k ≡ value }
-{
-    for byte in bytes.iter_mut() {
-        *byte = value;
-    }
 }
 
 // Are the tables as long as the task asks?
@@ -72,8 +64,8 @@ impl Rule for All {
         marks: &mut [u8],
         work: &mut [u8],
     ) {
-        fill(work, 0);
-        fill(marks, 1);
+        work.fill(0);
+        marks.fill(1);
     }
 }
 
@@ -89,8 +81,9 @@ fn close_by_actions(
     ensures { Marked (stubborn (bench_of task.now actions.now) setting) marks.new }
 {
     if let Some(goal) = first_unmet(setting, task.goal.list()) {
-        let tail = join_achievers(goal, actions, marks, work, 0);
-        spread(setting, actions, marks, work, tail);
+        let mut queue = Queue::none(&actions[..task.actions], marks, work);
+        queue.join_where(|action| achieves(action, goal));
+        queue.spread(setting);
     }
 }
 
@@ -114,26 +107,12 @@ impl Rule for Actions {
         marks: &mut [u8],
         work: &mut [u8],
     ) {
-        fill(work, 0);
-        fill(marks, 0);
+        work.fill(0);
+        marks.fill(0);
         if sized(task, actions, marks.len(), work.len()) {
             close_by_actions(task, actions, setting, marks, work);
         }
-        fill(work, 0);
-    }
-}
-
-// Work bytes that are cleared when they are let go, on every way out.
-struct Cleared<'a> {
-    work: &'a mut [u8],
-}
-
-impl Drop for Cleared<'_> {
-    fn drop(self)
-        ensures { Zeros self.exit.0.now }
-    {
-        let Cleared { work: bytes } = self;
-        fill(bytes, 0);
+        work.fill(0);
     }
 }
 
@@ -159,17 +138,15 @@ impl Rule for Atoms {
         marks: &mut [u8],
         work: &mut [u8],
     ) {
+        marks.fill(0);
         let room = work.len();
-        let guard = Cleared { work };
-        fill(guard.work, 0);
-        fill(marks, 0);
+        let mut pending = Pending::none(work, setting, task.sizes);
         if !sized(task, actions, marks.len(), room) {
             return;
         }
-        let Some(goal) = first_unmet(setting, task.goal.list()) else {
-            return;
-        };
-        ask(guard.work, ACHIEVERS, goal);
-        sweep(setting, task.sizes, actions, marks, guard.work);
+        if let Some(goal) = first_unmet(setting, task.goal.list()) {
+            pending.ask(Collection::Achievers, goal);
+            pending.sweep(&actions[..task.actions], marks);
+        }
     }
 }

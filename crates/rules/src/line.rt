@@ -1,118 +1,134 @@
 // The actions marked so far, in line in the work bytes, each to be gone through once.
-ghost use Rattle.std.specs.Prelude.{◌≡◌, ◌<◌, ◌≤◌, length, nat_eq};
+ghost use Rattle.std.specs.Prelude.{◌≡◌, ◌<◌, ◌≤◌, Bool, length, nat_eq};
+ghost use Rattle.std.specs.Fn.{FnReturnsAt};
 ghost use Rattle.task.specs.Settings.{unmet};
-ghost use Rattle.task.specs.Benches.{act_of, achieving, interfering};
+ghost use Rattle.task.specs.Benches.{Act, act_of};
+ghost use Rattle.task.specs.declared.data.Action.{Action};
+ghost use Rattle.rules.specs.Marks.{Zeros};
 ghost use Rattle.rules.specs.Sets.{called};
-ghost use Rattle.rules.specs.Queues.{act_at, number_at, lined_up, calling, Line, Joined, Spread};
+ghost use Rattle.rules.specs.Queues.{act_at, number_at, lined_up, calling, Line, Spread};
 
-use task::{Action, Atom, Setting, achieves, first_unmet, interferes};
-
-// The number in line at a place.
-fn number_at(work: &[u8], place: usize) -> usize
-    requires { (length work.now ≡ 4096) × (place < 2048) }
-    ensures { result ≡ number_at work.now place }
-{
-    work[place] as usize + 256 * work[2048 + place] as usize
-}
+use task::{Action, Setting, achieves, first_unmet, interferes};
 
 // Puts a number into line.
 fn line_up(work: &mut [u8], place: usize, number: usize)
     requires { (length work.old ≡ 4096) × (place < 2048) × (number < 65536) }
     ensures { work.new ≡ lined_up work.old place number }
 {
-    work[place] = (number % 256) as u8;
-    work[2048 + place] = (number / 256) as u8;
+    let [low, high] = (number as u16).to_le_bytes();
+    work[place] = low;
+    work[2048 + place] = high;
 }
 
-// Marks an action and puts it into line, unless it is marked already; how many are in line then.
-fn join(marks: &mut [u8], work: &mut [u8], tail: usize, number: usize) -> usize
-    requires { Line marks.old work.old tail × (number < length marks.old) }
-    ensures { Joined (nat_eq number) (length marks.old) marks.old work.old tail marks.new work.new result }
-{
-    if marks[number] == 1 {
-        return tail;
-    }
-    marks[number] = 1;
-    line_up(work, tail, number);
-    tail + 1
-}
-
-// Every action that achieves the atom joins.
-pub(crate) fn join_achievers(
-    atom: Atom,
-    actions: &[Action],
-    marks: &mut [u8],
-    work: &mut [u8],
+// A bench's actions, of which the marked ones stand in line; those before the head have had their turn.
+#[derive(Drop)]
+pub(crate) struct Queue<'a, 'm, 'w> {
+    actions: &'a [Action],
+    marks: &'m mut [u8],
+    work: &'w mut [u8],
+    head: usize,
     tail: usize,
-) -> usize
-    requires { Line marks.old work.old tail × (length marks.old ≤ length actions.now) }
-    ensures { Joined (λ k. achieving (act_at actions.now k) atom) (length marks.old) marks.old work.old tail marks.new work.new result }
-{
-    let mut end = tail;
-    for number in 0..marks.len() {
-        if achieves(&actions[number], atom) {
-            end = join(marks, work, end, number);
+    ghost one_each: { length marks.now ≡ length actions.now },
+    ghost in_line: { ∥ Line marks.now work.now tail ∥₁ },
+    ghost passed: { head ≤ tail },
+}
+
+#[tactic(auto, using(crate::proofs::Lines::lines))]
+impl<'a, 'm, 'w> Queue<'a, 'm, 'w> {
+    ghost use Rattle.rules.specs.Members.{SameBytes, NoTurn, Joins, IsNext, StandStill};
+
+    // No action is marked.
+    pub(crate) fn none(actions: &'a [Action], marks: &'m mut [u8], work: &'w mut [u8]) -> Self
+        requires { (length work.old ≡ 4096) × (length marks.old ≤ 1024) × (length marks.old ≡ length actions.now) × Zeros marks.old }
+        ensures same { (result.marks.ghost_name ≡ marks.entry.ghost_name) × (result.work.ghost_name ≡ work.entry.ghost_name) }
+        ensures empty { (result.actions.now ≡ actions.now) × (result.marks.now ≡ marks.old) × (result.work.now ≡ work.old) × (result.head ≡ 0) × (result.tail ≡ 0) }
+    {
+        Queue {
+            actions,
+            marks,
+            work,
+            head: 0,
+            tail: 0,
         }
     }
-    end
-}
 
-// Every action that interferes with the member joins.
-fn join_interferers(
-    member: &Action,
-    actions: &[Action],
-    marks: &mut [u8],
-    work: &mut [u8],
-    tail: usize,
-) -> usize
-    requires { Line marks.old work.old tail × (length marks.old ≤ length actions.now) }
-    ensures { Joined (λ k. interfering (act_at actions.now k) (act_of member.now)) (length marks.old) marks.old work.old tail marks.new work.new result }
-{
-    let mut end = tail;
-    for number in 0..marks.len() {
-        if interferes(&actions[number], member) {
-            end = join(marks, work, end, number);
+    // Marks an action and puts it into line, unless it is marked already.
+    fn join(&mut self, number: usize)
+        requires { number < length self.old.marks.now }
+        ensures same { NoTurn self.old self.new }
+        ensures joined { Joins (nat_eq number) self.old self.new }
+    {
+        let Queue {
+            marks,
+            work,
+            tail,
+            ..
+        } = self;
+        if marks[number] == 1 {
+            return;
+        }
+        marks[number] = 1;
+        line_up(work, *tail, number);
+        *tail += 1;
+    }
+
+    // Every action that passes the test joins.
+    pub(crate) fn join_where<F: Fn(&Action) -> bool>(&mut self, test: F)
+        requires { F.IsAlwaysCallable test }
+        ensures same { NoTurn self.old self.new }
+        ensures joined { (passes : Act → Bool) → ((a : Action) (r : Bool) → FnReturnsAt F.Fn test a r → r ≡ passes (act_of a)) → Joins (λ k. passes (act_at self.old.actions.now k)) self.old self.new }
+    {
+        let actions = self.actions;
+        for (number, action) in actions.iter().enumerate() {
+            if test(action) {
+                self.join(number);
+            }
         }
     }
-    end
-}
 
-// Every action that the member calls for joins: the achievers of its first unmet condition or, where all
-// its conditions hold, its interferers.
-fn join_called(
-    member: &Action,
-    setting: Setting,
-    actions: &[Action],
-    marks: &mut [u8],
-    work: &mut [u8],
-    tail: usize,
-) -> usize
-    requires { Line marks.old work.old tail × (length marks.old ≤ length actions.now) }
-    ensures { Joined (λ k. called (unmet setting (act_of member.now).conditions) (act_of member.now) (act_at actions.now k)) (length marks.old) marks.old work.old tail marks.new work.new result }
-{
-    match first_unmet(setting, member.conditions.list()) {
-        Some(atom) => join_achievers(atom, actions, marks, work, tail),
-        None => join_interferers(member, actions, marks, work, tail),
+    // Every action that the member calls for joins: the achievers of its first unmet condition or, where
+    // all its conditions hold, its interferers.
+    fn join_called(&mut self, member: &Action, setting: Setting)
+        ensures same { NoTurn self.old self.new }
+        ensures joined { Joins (λ k. called (unmet setting (act_of member.now).conditions) (act_of member.now) (act_at self.old.actions.now k)) self.old self.new }
+    {
+        match first_unmet(setting, member.conditions.list()) {
+            Some(atom) => self.join_where(|action| achieves(action, atom)),
+            None => self.join_where(|action| interferes(action, member)),
+        }
     }
-}
 
-// Goes along the line, each member once, until nobody joins any more.
-pub(crate) fn spread(
-    setting: Setting,
-    actions: &[Action],
-    marks: &mut [u8],
-    work: &mut [u8],
-    tail: usize,
-)
-    requires { Line marks.old work.old tail × (length marks.old ≤ length actions.now) }
-    ensures { Spread (calling setting actions.now) marks.old marks.new }
-{
-    let mut head = 0;
-    let mut end = tail;
-    while head < end {
-        let number = number_at(work, head);
-        let member = &actions[number];
-        end = join_called(member, setting, actions, marks, work, end);
-        head += 1;
+    // The number at the head of the line.
+    fn front(&self) -> usize
+        requires { self.now.head < self.now.tail }
+        ensures number { result ≡ number_at self.now.work.now self.now.head }
+        ensures low { result < length self.now.actions.now }
+    {
+        usize::from(u16::from_le_bytes([self.work[self.head], self.work[2048 + self.head]]))
+    }
+
+    // The next in line has its turn.
+    fn next(&mut self) -> Option<&'a Action>
+        ensures same { SameBytes self.old self.new }
+        ensures still { StandStill self.old self.new }
+        ensures turn { IsNext self.old result self.new }
+    {
+        if self.head == self.tail {
+            return None;
+        }
+        let number = self.front();
+        self.head += 1;
+        Some(&self.actions[number])
+    }
+
+    // Goes along the line, each member once, until nobody joins any more.
+    pub(crate) fn spread(&mut self, setting: Setting)
+        requires { self.old.head ≡ 0 }
+        ensures same { SameBytes self.old self.new }
+        ensures spread { Spread (calling setting self.old.actions.now) self.old.marks.now self.new.marks.now }
+    {
+        while let Some(member) = self.next() {
+            self.join_called(member, setting);
+        }
     }
 }

@@ -1,18 +1,20 @@
-// The smallest closed set by a plain closure, beside what the rules mark.
+// The smallest closed set by a plain closure, beside what the rules mark. The program compare has a closure of
+// its own: two oracles that share no code share no slip.
+ghost use Rattle.std.specs.Prelude.{◌<◌, IfSome};
+
 use crate::maker::Maker;
+use std::alloc::{AllocError, Global};
 use std::process::Abort;
 use std::test::*;
 
-// A value for each of four variables, or 9 for none.
-type Row = [u8; 4];
+// A value, or none, for each of four variables.
+type Row = [Option<u8>; 4];
 
 #[derive(Clone, Copy)]
 struct Step {
     conditions: Row,
     effects: Row,
 }
-
-const NONE: u8 = 9;
 
 // The next number of a sequence without much pattern.
 fn next(seed: u32) -> u32 {
@@ -23,9 +25,12 @@ fn value(seed: u32) -> u8 {
     (seed % 3) as u8
 }
 
-// A value, or none.
-fn some_value(seed: u32) -> u8 {
-    if seed % 3 == 0 { value(seed / 3) } else { NONE }
+fn some_value(seed: u32) -> Option<u8> {
+    if seed % 3 == 0 {
+        Some(value(seed / 3))
+    } else {
+        None
+    }
 }
 
 fn some_row(seed: u32) -> Row {
@@ -41,13 +46,13 @@ fn some_row(seed: u32) -> Row {
 fn made_step(seed: u32) -> Step {
     let conditions = some_row(seed);
     let mut effects = some_row(next(seed));
-    for v in 0..4 {
-        if effects[v] == conditions[v] {
-            effects[v] = NONE;
+    for (effect, condition) in effects.iter_mut().zip(&conditions) {
+        if *effect == *condition {
+            *effect = None;
         }
     }
-    if effects[0] == NONE && effects[1] == NONE && effects[2] == NONE && effects[3] == NONE {
-        effects[3] = if conditions[3] == 0 { 1 } else { 0 };
+    if effects.iter().all(|effect| effect.is_none()) {
+        effects[3] = Some(if conditions[3] == Some(0) { 1 } else { 0 });
     }
     Step {
         conditions,
@@ -55,52 +60,46 @@ fn made_step(seed: u32) -> Step {
     }
 }
 
-// The lowest variable whose value is asked for and is not there, or 4.
-fn missing(asked: Row, values: Row) -> usize {
-    for v in 0..4 {
-        if asked[v] != NONE && asked[v] != values[v] {
-            return v;
-        }
-    }
-    4
+// The lowest variable whose value is asked for and is not there.
+fn missing(asked: Row, values: [u8; 4]) -> Option<usize>
+    ensures { IfSome result (λ v. v < 4) }
+{
+    asked.iter().zip(&values).position(|(asked, value)| asked.is_some_and(|asked| asked != *value))
 }
 
 fn differ(left: Row, right: Row) -> bool {
-    for v in 0..4 {
-        if left[v] != NONE && right[v] != NONE && left[v] != right[v] {
-            return true;
-        }
-    }
-    false
+    left.iter().zip(&right).any(|(left, right)| left.is_some() && right.is_some() && left != right)
 }
 
 // Does the member call for the other?
-fn calls(member: Step, other: Step, values: Row) -> bool {
-    let v = missing(member.conditions, values);
-    if v < 4 {
-        return other.effects[v] == member.conditions[v];
+fn calls(member: Step, other: Step, values: [u8; 4]) -> bool {
+    match missing(member.conditions, values) {
+        Some(v) => other.effects[v] == member.conditions[v],
+        None => {
+            differ(other.effects, member.conditions)
+                || differ(other.effects, member.effects)
+                || differ(member.effects, other.conditions)
+        }
     }
-    differ(other.effects, member.conditions)
-        || differ(other.effects, member.effects)
-        || differ(member.effects, other.conditions)
 }
 
 // Eight rounds of adding what the members call for.
-fn closure(steps: [Step; 8], goal: Row, values: Row) -> [u8; 8] {
+fn closure(steps: [Step; 8], goal: Row, values: [u8; 4]) -> [u8; 8] {
     let mut marks = [0; 8];
-    let v = missing(goal, values);
-    if v < 4 {
-        for i in 0..8 {
-            if steps[i].effects[v] == goal[v] {
-                marks[i] = 1;
+    if let Some(v) = missing(goal, values) {
+        for (mark, step) in marks.iter_mut().zip(&steps) {
+            if step.effects[v] == goal[v] {
+                *mark = 1;
             }
         }
     }
     for _ in 0..8 {
-        for j in 0..8 {
-            for i in 0..8 {
-                if marks[j] == 1 && calls(steps[j], steps[i], values) {
-                    marks[i] = 1;
+        for (j, member) in steps.iter().enumerate() {
+            if marks[j] == 1 {
+                for (mark, other) in marks.iter_mut().zip(&steps) {
+                    if calls(*member, *other, values) {
+                        *mark = 1;
+                    }
                 }
             }
         }
@@ -108,36 +107,31 @@ fn closure(steps: [Step; 8], goal: Row, values: Row) -> [u8; 8] {
     marks
 }
 
-// A row as the bytes of its atoms, and how many there are.
-fn bytes_of(values: Row) -> ([u8; 8], usize) {
-    let mut bytes = [0; 8];
-    let mut count = 0;
-    for v in 0..4 {
-        if values[v] != NONE && count < 7 {
-            bytes[count] = v as u8;
-            bytes[count + 1] = values[v];
-            count += 2;
+// A row as the bytes of its atoms.
+fn bytes_of(alloc: Global, row: Row) -> Result<Vec<u8>, AllocError> {
+    let mut bytes = Vec::new(alloc);
+    for (variable, value) in (0u8..4).zip(&row) {
+        if let Some(value) = value {
+            bytes.push(variable)?;
+            bytes.push(*value)?;
         }
     }
-    (bytes, count)
+    Ok(bytes)
 }
 
 // Makes a bench of eight actions and a setting from a number, compares, and answers the next number.
-pub(crate) fn compare(rt: &impl Abort, seed: u32) -> Result<u32, Fail> {
+pub(crate) fn compare(rt: &impl Abort, alloc: Global, seed: u32) -> Result<u32, Fail> {
     let mut seed = next(seed);
     let goal = some_row(seed);
+    let mut bench = Maker::new(alloc, b"\x03\x03\x03\x03", &bytes_of(alloc, goal)?);
     let mut steps = [made_step(seed); 8];
-    let (goal_bytes, goal_count) = bytes_of(goal);
-    assert!(rt; goal_count <= 8);
-    let mut bench = Maker::new(b"\x03\x03\x03\x03", &goal_bytes[0..goal_count]);
-    for k in 0..8 {
+    for step in steps.iter_mut() {
         seed = next(seed);
-        let made = made_step(seed);
-        steps[k] = made;
-        let (conditions, some) = bytes_of(made.conditions);
-        let (effects, more) = bytes_of(made.effects);
-        assert!(rt; some <= 8 && more <= 8);
-        bench.add(&conditions[0..some], &effects[0..more]);
+        *step = made_step(seed);
+        bench.add(
+            &bytes_of(alloc, step.conditions)?,
+            &bytes_of(alloc, step.effects)?,
+        )?;
     }
     seed = next(seed);
     let values = [

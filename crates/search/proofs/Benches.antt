@@ -1,33 +1,15 @@
 -- What a search takes for granted holds of a lawful bench.
-use Rattle.std.proofs.Common.{◌≡◌, ℕ, zero, suc, ◌+◌, ◌<◌, ◌≤◌, Bool, true, false, cond, ◌&&◌, ltb, ◌≢◌, List, [], ◌∷◌, length, get_or, take, set, Some, None, refl, ap, ◌∙◌, inl, inr, add-zero, zero-add, arith, length-set, get_or-set_other, get_or-set_same}
-use lib.ListN.{length-map}
+use Rattle.std.proofs.Common.{◌≡◌, ℕ, zero, suc, ◌+◌, ◌<◌, ◌≤◌, Bool, true, false, cond, ◌&&◌, ltb, ◌≢◌, List, [], ◌∷◌, length, get_or, set, Some, None, refl, ap, ◌∙◌, inl, inr, add-zero, zero-add, arith, length-set, get_or-set_other, get_or-set_same}
 use Rattle.std.specs.List.{AllByRecursion}
 use Rattle.std.proofs.ByRecursion.{All-get_or}
-use Rattle.std.proofs.lemmas.List.{get_or_default, get_or-map, get_or-take, length-take-le}
+use Rattle.std.proofs.lemmas.List.{get_or_default}
 use Rattle.std.proofs.lemmas.Bool.{and_parts, cases_eq, ltb-true, lt-ltb}
 use Rattle.task.specs.declared.data.Atom.{Atom}
-use Rattle.task.specs.declared.data.Action.{Action}
-use Rattle.task.specs.declared.data.Task.{Task}
 use Rattle.task.specs.Settings.{assigned, outside, met}
-use Rattle.task.specs.Benches.{Bench, bench_of, act_of, world, act, idle, Lawful, LawfulAct, SettingOf, Inside}
+use Rattle.task.specs.Benches.{Bench, world, act, idle, Lawful, LawfulAct, SettingOf, Inside}
 use Rattle.tariff.specs.Charges.{Charges, Billable}
 use Rattle.search.specs.Steps.{Quest, problem}
 use Rattle.search.proofs.Invariant.{Sane}
-
--- two cases of an option are not one
-pub some_none : {A : Type 0} {x : A} → Some x ≡ None → ⊥
-some_none e = let z : ◌≡◌ {A = ℕ} 0 1 = cc in omega arith
-
--- the actions of a bench whose table is long enough
-module _ (task : Task) (table : List Action) (long : task.actions ≤ length table) where
-  taken_all : length (take task.actions table) ≡ task.actions
-  taken_all = length-take-le task.actions table long
-
-  pub actions_number : length (bench_of task table).actions ≡ task.actions
-  actions_number = length-map (take task.actions table) act_of ∙ taken_all
-
-  pub act_is : (k : ℕ) (d : Action) → k < task.actions → act (bench_of task table) k ≡ act_of (get_or table k d)
-  act_is k d l = let n : k < length (take task.actions table) = omega (arith, taken_all) in get_or-map act_of (take task.actions table) k d idle n ∙ ap act_of (get_or-take task.actions table k d l)
 
 module _ (b : Bench) where
   assigned_setting : length b.sizes ≤ 64 → (atoms : List Atom) (s : List ℕ) → AllByRecursion (Inside b.sizes) atoms → SettingOf b s → SettingOf b (assigned s atoms)
@@ -72,7 +54,7 @@ module _ (b : Bench) where
           → (outside b.sizes (v + 1) more ≡ None → (w : ℕ) → w < length more → get_or more w 0 < get_or b.sizes ((v + 1) + w) 1) → (w : ℕ) → w < length (x ∷ more) → get_or (x ∷ more) w 0 < get_or b.sizes (v + w) 1
       at true t e ih zero l = rw (add-zero v) (ltb-true x (get_or b.sizes v 1) t)
       at true t e ih (suc w) l = let n : v + suc w ≡ (v + 1) + w = omega arith in rw n (ih e w (omega arith))
-      at false t e ih w l = absurd (some_none e)
+      at false t e ih w l = absurd cc
 
   pub setting_of : (s : List ℕ) → length s ≡ 64 → outside b.sizes 0 s ≡ None → SettingOf b s
   setting_of s n e = record { places = n; values = λ v l. let h = none_outside 0 s e v (omega arith) in rw zero-add at h }

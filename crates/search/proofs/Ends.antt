@@ -2,7 +2,7 @@
 use Rattle.std.proofs.Common.{◌≡◌, ℕ, zero, suc, ◌<◌, ◌≤◌, Bool, true, false, cond, ◌⊎◌, List, [], ◌∷◌, ◌++◌, map, length, get_or, None, filter, sym, refl, ap, ◌∙◌, subst, inl, inr, append-nil, arith}
 use lib.ListN.{length-map}
 use Rattle.std.specs.List.{AllByRecursion}
-use Rattle.std.proofs.ByRecursion.{All-push}
+use Rattle.std.proofs.ByRecursion.{All-push, All-map, All-from_get_or}
 use Rattle.std.proofs.lemmas.List.{length_push}
 use Rattle.std.proofs.lemmas.Bool.{cases_Bool}
 use Rattle.task.specs.Benches.{Plan}
@@ -26,8 +26,7 @@ apart_push (s ∷ ss) t a h = (All-push (λ u. s ≡ u → ⊥) ss t a.0 h.0, ap
 
 module _ {C : Type 0} where
   all_rows : (Q : List ℕ → Type 0) (d : Row C) (rows : List (Row C)) → ((k : ℕ) → k < length rows → Q (get_or rows k d).setting) → AllByRecursion Q (settings rows)
-  all_rows Q d [] h = tt
-  all_rows Q d (r ∷ rows) h = (h 0 (omega arith), all_rows Q d rows (λ k l. h (suc k) (omega arith)))
+  all_rows Q d rows h = All-map Q (λ r. r.setting) rows (All-from_get_or (λ r. Q r.setting) rows d h)
 
   apart_rows : (d : Row C) (rows : List (Row C)) → ((j k : ℕ) → j < length rows → k < length rows → (get_or rows j d).setting ≡ (get_or rows k d).setting → j ≡ k) → Apart (settings rows)
   apart_rows d [] h = tt
@@ -59,7 +58,7 @@ module _ {C : Type 0} where
     where
       by : (b : Bool) → b ≡ true → Listed r.setting (settings (cond b (r ∷ filter (λ r. r.closed) rows) (filter (λ r. r.closed) rows)))
       by true e = inl refl
-      by false e = absurd (never e refl)
+      by false e = absurd cc
   listed_shut d (r ∷ rows) (suc k) l e = by r.closed (listed_shut d rows k (omega arith) e)
     where
       by : (b : Bool) → Listed (get_or rows k d).setting (settings (filter (λ r. r.closed) rows)) → Listed (get_or rows k d).setting (settings (cond b (r ∷ filter (λ r. r.closed) rows) (filter (λ r. r.closed) rows)))

@@ -4,17 +4,17 @@ use Rattle.std.proofs.lemmas.Bool.{and_parts, ltb-true, ltb-false, leb-true, eqb
 use Rattle.task.specs.declared.refusal.Refusal.{Refusal}
 use Rattle.task.specs.Settings.{outside}
 use Rattle.task.specs.Benches.{Bench, SettingOf}
-use Rattle.search.specs.Session.{Lengths, short, start_outside, start_fault, begin_fault, advance_fault, end_fault, take_fault, End, found}
-use Rattle.search.proofs.Benches.{some_none, setting_of}
+use Rattle.search.specs.Session.{Lengths, short, start_outside, start_fault, begin_fault, end_fault, take_fault, End, found}
+use Rattle.search.proofs.Benches.{setting_of}
 
 -- a test that refuses was not met, and what follows does not refuse either
 pub passed : {X : Type 0} (b : Bool) (r : X) (more : Option X) → cond b (Some r) more ≡ None → (b ≡ false) × (more ≡ None)
-passed true r more h = absurd (some_none h)
+passed true r more h = absurd cc
 passed false r more h = (refl, h)
 
 pub came : {X : Type 0} (b : Bool) (r : X) (more : Option X) → cond b more (Some r) ≡ None → (b ≡ true) × (more ≡ None)
 came true r more h = (refl, h)
-came false r more h = absurd (some_none h)
+came false r more h = absurd cc
 
 pub long_enough : (table need have : ℕ) (more : Option Refusal) → short table need have more ≡ None → (need ≤ have) × (more ≡ None)
 long_enough table need have more h = let p = passed (ltb have need) _ more h in (ltb-false have need p.0, p.1)
@@ -31,7 +31,7 @@ pub record Ready (b : Bench) (s : List ℕ) (l : Lengths) : Type 0 where
 
 none_started : (o : Option ℕ) → start_outside o ≡ None → o ≡ None
 none_started None e = refl
-none_started (Some v) e = absurd (some_none e)
+none_started (Some v) e = absurd cc
 
 start_in : (b : Bench) (s : List ℕ) → start_fault b s ≡ None → SettingOf b s
 start_in b s e = let p = came (eqb (length s) 64) 64 (outside b.sizes 0 s) (none_started (cond (eqb (length s) 64) (outside b.sizes 0 s) (Some 64)) e) in setting_of b s (eqb-true (length s) 64 p.0) p.1
@@ -45,25 +45,6 @@ ready b s l e =
     let m = long_enough 5 (length b.actions) l.marks _ p.1 in
     let w = long_enough 6 4096 l.work _ m.1 in
     record { some_row = ltb-true 0 l.rows n.0; few = leb-true l.rows 65535 n.1; queue = q.0; plan = p.0; marks = m.0; work = w.0; start = start_in b s w.1 }
-
--- an Advance that is not refused
-pub record Fit (b : Bench) (capacity : ℕ) (l : Lengths) : Type 0 where
-  pub actions : length b.actions ≤ l.actions
-  pub rows : capacity ≤ l.rows
-  pub queue : capacity ≤ l.queue
-  pub plan : capacity ≤ l.plan
-  pub marks : length b.actions ≤ l.marks
-  pub work : 4096 ≤ l.work
-
-pub fit : (b : Bench) (capacity : ℕ) (l : Lengths) → advance_fault b capacity l ≡ None → Fit b capacity l
-fit b capacity l e =
-    let a = long_enough 1 (length b.actions) l.actions _ e in
-    let r = long_enough 2 capacity l.rows _ a.1 in
-    let q = long_enough 3 capacity l.queue _ r.1 in
-    let p = long_enough 4 capacity l.plan _ q.1 in
-    let m = long_enough 5 (length b.actions) l.marks _ p.1 in
-    let w = long_enough 6 4096 l.work _ m.1 in
-    record { actions = a.0; rows = r.0; queue = q.0; plan = p.0; marks = m.0; work = w.0 }
 
 -- a Take that is not refused
 pub record Takable {C : Type 0} (b : Bench) (capacity : ℕ) (e : End C) (l : Lengths) : Type 0 where

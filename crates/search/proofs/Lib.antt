@@ -11,21 +11,19 @@ pub mod Remainders
 pub mod Promises
 pub mod Held
 pub mod Runs
+mod Seeks
 mod Ranks
 mod Tells
 mod Heaps
 mod Notes
 mod Entries
-pub mod Faults
 pub mod Plans
 mod Lines
 pub mod Sessions
 pub mod Takings
-mod Seeks
 mod Placings
 mod Sweeps
 mod Running
-mod Cuts
 pub mod Advancings
 mod Sound
 mod Worked

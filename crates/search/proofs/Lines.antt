@@ -1,6 +1,6 @@
 -- A queue in which each open row waits once, when a row is added, lowered or closed.
 use Rattle.std.proofs.Common.{◌≡◌, ℕ, zero, suc, ◌+◌, ◌<◌, ◌≤◌, Bool, true, false, cond, eqb, ltb, ◌≢◌, List, [], ◌∷◌, ◌++◌, length, get_or, set, Some, None, Less, Equal, Greater, sym, refl, ap, ◌∙◌, subst, inl, inr, arith, length-set, get_or-set_other, get_or-set_same}
-use Rattle.std.specs.Ordering.{is_lt, ordering_then}
+use Rattle.std.specs.Ordering.{is_lt, nat_cmp, ordering_then}
 use Rattle.std.specs.List.Sorted.{IsPermutation}
 use Rattle.std.proofs.lemmas.Bool.{cases_eq, cond-true, cond-false, eq-eqb, ne_eqb, ltb-false}
 use Rattle.std.proofs.lemmas.List.{get_or_default, get_or_append_left, get_or_push}
@@ -11,7 +11,7 @@ use Rattle.tariff.specs.Charges.{Charges}
 use Rattle.search.specs.declared.data.Row.{Row}
 use Rattle.search.specs.declared.entry.Waiting.{Waiting}
 use Rattle.search.specs.declared.entry.Entry.{Entry}
-use Rattle.search.specs.Queues.{sooner, numbered, Queued, Noted, Least, Lowered, Fresh}
+use Rattle.search.specs.Queues.{sooner, Queued, Noted, Least, Lowered, Fresh}
 use Rattle.search.specs.Rows.{shut, lowered, least, row, blank}
 use Rattle.search.specs.Lined.{times, due, AtCharge, Matched, Lined}
 use Rattle.search.proofs.Sums.{never, not_le}
@@ -32,7 +32,7 @@ sooner_less le a b h k = simp (h, k)
 sooner_not : {C : Type 0} (K : Charges C) (x e : Waiting C) → sooner K.le x e ≡ false → (K.le e.charge x.charge ≡ true) × (K.le x.charge e.charge ≡ true → e.row ≤ x.row)
 sooner_not K x e h = at (K.le x.charge e.charge) (K.le e.charge x.charge) refl refl h
   where
-    at : (s t : Bool) → K.le x.charge e.charge ≡ s → K.le e.charge x.charge ≡ t → is_lt (ordering_then (cond s (cond t Equal Less) Greater) (numbered x.row e.row)) ≡ false → (t ≡ true) × (s ≡ true → e.row ≤ x.row)
+    at : (s t : Bool) → K.le x.charge e.charge ≡ s → K.le e.charge x.charge ≡ t → is_lt (ordering_then (cond s (cond t Equal Less) Greater) (nat_cmp x.row e.row)) ≡ false → (t ≡ true) × (s ≡ true → e.row ≤ x.row)
     at true true u v w = (refl, λ _. by (ltb x.row e.row) refl w)
       where
         by : (p : Bool) → ltb x.row e.row ≡ p → is_lt (cond p Less (cond (eqb x.row e.row) Equal Greater)) ≡ false → e.row ≤ x.row

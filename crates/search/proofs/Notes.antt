@@ -1,6 +1,8 @@
 -- The places that are noted of a queue's rows.
-use Rattle.std.proofs.Common.{◌≡◌, ℕ, ◌+◌, ◌-◌, ◌<◌, ◌≤◌, List, length, get_or, take, set, sym, ap, ◌∙◌, subst, ⊎_elim, arith, length-set, length-take, get_or-set_other, get_or-take, get_or-set_same}
+use Rattle.std.proofs.Common.{◌≡◌, ℕ, ◌+◌, ◌-◌, ◌<◌, ◌≤◌, List, length, get_or, take, set, Some, sym, ap, ◌∙◌, subst, ⊎_elim, arith, length-set, length-take, get_or-set_other, get_or-take, get_or-set_same}
+use Rattle.std.specs.List.{slice_get}
 use Rattle.std.proofs.lemmas.List.{get_or_default}
+use Rattle.std.proofs.lemmas.Option.{slice_get-get_or}
 use Rattle.std.proofs.Permutation.{which}
 use Rattle.search.specs.declared.entry.Waiting.{Waiting}
 use Rattle.search.specs.Queues.{Noted}
@@ -113,9 +115,9 @@ module _ {C : Type 0} where
       (which k j) in
       subst Fine rows told
 
-  -- the place of a row that waits is the one noted
-  pub found_at : (xs : List (Waiting C)) (places : List ℕ) (e : Waiting C) (k d : ℕ) → Noted xs places → k < length xs → (get_or xs k e).row ≡ e.row → k ≡ get_or places e.row d
+  -- the note of a row that waits names its place
+  pub noted_get : (xs : List (Waiting C)) (places : List ℕ) (row k : ℕ) (d : Waiting C) → Noted xs places → k < length xs → (get_or xs k d).row ≡ row → slice_get places row ≡ Some k
   unfolding Noted
-  found_at xs places e k d was in' row =
-      let told = was k e in' in
-      sym told.1 ∙ get_or_default places (get_or xs k e).row 0 d told.0 ∙ ap (λ r. get_or places r d) row
+  noted_get xs places row k d was in' is =
+      let told = was k d in' in
+      ap (slice_get places) (sym is) ∙ slice_get-get_or places (get_or xs k d).row 0 told.0 ∙ ap Some told.1

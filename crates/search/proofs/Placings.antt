@@ -1,42 +1,52 @@
 -- A row that is kept, lowered, added or closed in the table, and what that does to the used rows.
-use Rattle.std.proofs.Common.{◌≡◌, ℕ, ◌+◌, ◌-◌, ◌<◌, ◌≤◌, Bool, true, false, cond, not, ltb, List, [], ◌∷◌, ◌++◌, length, get_or, take, drop, set, Less, Equal, Greater, sym, refl, ap, ◌∙◌, arith, get_or-take}
+use Rattle.std.proofs.Common.{◌≡◌, ℕ, suc, ◌+◌, ◌-◌, ◌<◌, ◌≤◌, Bool, true, false, cond, not, ltb, List, [], ◌∷◌, ◌++◌, length, get_or, take, drop, set, Some, None, Less, Equal, Greater, sym, refl, ap, ◌∙◌, arith, get_or-take}
 use lib.Seq.{take-set-lt}
-use Rattle.std.proofs.lemmas.Bool.{cond-true, cond-false, lt-ltb, le-ltb}
+use Rattle.std.specs.List.{position, position_or_len}
+use Rattle.std.specs.Ordering.{is_lt}
+use Rattle.std.specs.Str.{bytes_eq}
+use Rattle.std.proofs.lemmas.List.Recursion.{is_position_or_len}
+use Rattle.std.proofs.lemmas.Bool.{cond-true, cond-false, lt-ltb, le-ltb, ltb-false}
 use Rattle.std.proofs.lemmas.List.{get_or_default, length-take-le, drop-drop}
 use Rattle.tariff.specs.Charges.{Charges}
 use Rattle.tariff.specs.Totals.{ordered}
 use Rattle.search.specs.declared.data.Row.{Row}
 use Rattle.search.specs.Rows.{on, over, seek, lowered, settled, place, row, blank}
-use Rattle.search.proofs.Sums.{not_le}
+use Rattle.search.proofs.Sums.{never, not_le}
 
 -- what a comparison tells
-module _ {C : Type 0} (K : Charges C) (a b : C) where
-  pub less_says : Less ≡ ordered K.le a b → true ≡ not (K.le b a)
-  less_says e = at (K.le a b) (K.le b a) e
-    where
-      at : (s t : Bool) → Less ≡ cond s (cond t Equal Less) Greater → true ≡ not t
-      at true true w = absurd (let z : ◌≡◌ {A = ℕ} 0 1 = cc in omega arith)
-      at true false w = refl
-      at false t w = absurd (let z : ◌≡◌ {A = ℕ} 0 1 = cc in omega arith)
+pub less_says : {C : Type 0} (K : Charges C) (a b : C) → is_lt (ordered K.le a b) ≡ not (K.le b a)
+less_says K a b = at (K.le a b) (K.le b a) refl refl
+  where
+    at : (s t : Bool) → K.le a b ≡ s → K.le b a ≡ t → is_lt (cond s (cond t Equal Less) Greater) ≡ not t
+    at true true u v = refl
+    at true false u v = refl
+    at false true u v = refl
+    at false false u v = absurd (never (not_le K a b u) v)
 
-  pub equal_says : Equal ≡ ordered K.le a b → false ≡ not (K.le b a)
-  equal_says e = at (K.le a b) (K.le b a) e
-    where
-      at : (s t : Bool) → Equal ≡ cond s (cond t Equal Less) Greater → false ≡ not t
-      at true true w = refl
-      at true false w = absurd (let z : ◌≡◌ {A = ℕ} 0 1 = cc in omega arith)
-      at false t w = absurd (let z : ◌≡◌ {A = ℕ} 0 1 = cc in omega arith)
+-- where a setting is sought, in the library's words
+module _ {C : Type 0} (s : List ℕ) (rows : List (Row C)) where
+  at : ℕ
+  at = position_or_len (λ (r : Row C). bytes_eq r.setting s) rows
 
-  pub greater_says : Greater ≡ ordered K.le a b → false ≡ not (K.le b a)
-  greater_says e = at (K.le a b) refl e
+  sought : at ≡ seek s rows
+  unfolding at
+  sought = sym (is_position_or_len (seek s) (λ (r : Row C). bytes_eq r.setting s) refl (λ x xs. let w : suc (seek s xs) ≡ 1 + seek s xs = omega arith in ap (cond (bytes_eq x.setting s) 0) w) rows)
+
+  pub sought_there : (j : ℕ) → position (λ (r : Row C). bytes_eq r.setting s) rows ≡ Some j → j ≡ seek s rows
+  unfolding at
+  sought_there j e = by (ltb at (length rows)) e ∙ sought
     where
-      at : (s : Bool) → K.le a b ≡ s → Greater ≡ cond s (cond (K.le b a) Equal Less) Greater → false ≡ not (K.le b a)
-      at true u w = by (K.le b a) w
-        where
-          by : (t : Bool) → Greater ≡ cond t Equal Less → false ≡ not t
-          by true w = refl
-          by false w = absurd (let z : ◌≡◌ {A = ℕ} 0 1 = cc in omega arith)
-      at false u w = sym (ap not (not_le K a b u))
+      by : (t : Bool) → cond t (Some at) None ≡ Some j → j ≡ at
+      by true w = cc
+      by false w = absurd (let z : ◌≡◌ {A = ℕ} 0 1 = cc in omega arith)
+
+  pub sought_past : position (λ (r : Row C). bytes_eq r.setting s) rows ≡ None → length rows ≤ seek s rows
+  unfolding at
+  sought_past e = by (ltb at (length rows)) refl e
+    where
+      by : (t : Bool) → ltb at (length rows) ≡ t → cond t (Some at) None ≡ None → length rows ≤ seek s rows
+      by true u w = absurd (let z : ◌≡◌ {A = ℕ} 0 1 = cc in omega arith)
+      by false u w = omega (arith, ltb-false at (length rows) u, sought)
 
 module _ {C : Type 0} (K : Charges C) (rows : List (Row C)) (n : ℕ) where
   -- a used row, read in the table

@@ -1,10 +1,11 @@
 -- A plan, written from its end and turned round.
-use Rattle.std.proofs.Common.{◌≡◌, ℕ, suc, ◌+◌, ◌-◌, ◌<◌, ◌≤◌, Bool, List, [], ◌∷◌, reverse, length, take, set, sym, ap, ◌∙◌, arith}
+use Rattle.std.proofs.Common.{◌≡◌, ℕ, suc, ◌+◌, ◌-◌, ◌<◌, ◌≤◌, Bool, List, [], ◌∷◌, ◌++◌, reverse, length, take, drop, set, sym, ap, ◌∙◌, arith, take_at}
 use mathlib.Core.List.{reverse-append}
-use Rattle.std.proofs.lemmas.List.{take_more_set}
+use Rattle.std.proofs.lemmas.List.{drop_at, take_more_set}
 use Rattle.std.proofs.lemmas.Bool.{ne_eqb}
 use Rattle.search.specs.declared.data.Row.{Row}
 use Rattle.search.specs.Rows.{row, follow, plan_of}
+use Rattle.search.specs.Left.{Written}
 use Rattle.search.proofs.Runs.{follow_root, follow_on}
 
 module _ {C : Type 0} (zero_charge : C) (le : C → C → Bool) (rows : List (Row C)) (goal count at : ℕ) (plan : List ℕ) (so_far : follow zero_charge le (length rows - count) rows at (reverse (take count plan)) ≡ plan_of zero_charge le rows goal) where
@@ -28,3 +29,10 @@ module _ {C : Type 0} (zero_charge : C) (le : C → C → Bool) (rows : List (Ro
   -- as many origins as there are rows
   pub at_last : length rows ≤ count → reverse (take count plan) ≡ plan_of zero_charge le rows goal
   at_last all = let none : 0 ≡ length rows - count = omega arith in ap (λ f. follow zero_charge le f rows at (reverse (take count plan))) none ∙ so_far
+
+-- a list in the first places, over what lies past them
+pub written_first : {X : Type 0} (list done rest before : List X) (n : ℕ) → length done ≡ n → done ≡ list → rest ≡ drop n before → Written list before (done ++ rest)
+written_first list done rest before n long is same = record {
+  first = take_at done rest (length list) (ap length is) ∙ is;
+  rest = drop_at done rest (length list) (ap length is) ∙ same ∙ ap (λ m. drop m before) (sym long ∙ ap length is);
+}

@@ -14,7 +14,7 @@ use Rattle.search.proofs.Traces.{Wider}
 use Rattle.search.proofs.Expansion.{Known, known_wider, first_known}
 use Rattle.search.proofs.Ends.{Best, NoneWithin, Near, TooManyRows, Spill, Tally, tally}
 use Rattle.search.proofs.Advances.{Says, Ran, advance_ran}
-use Rattle.search.proofs.Benches.{some_none, sane}
+use Rattle.search.proofs.Benches.{sane}
 use Rattle.search.proofs.Lent.{ready, takable, step_left}
 use Rattle.search.proofs.Remainders.{rest_plan, rest_least}
 
@@ -106,8 +106,8 @@ module _ {C : Type 0} (b : Bench) (K : Charges C) where
 
   taken_steps : (q : Quest C) (all : List Accepted) (l : Lengths) (e : End C) (n : ℕ) → end_fault e ≡ None → Fits (ended q e n) all → Stepped (ended q e n) all (taking l) (taken b K q e n)
   taken_steps q all l (found c plan k) n left h = (h, tt, (drop-cons plan k 0 (step_left c plan k left), refl), (q, c, plan, k, n, refl, refl))
-  taken_steps q all l no_plan n left h = absurd (some_none left)
-  taken_steps q all l no_row n left h = absurd (some_none left)
+  taken_steps q all l no_plan n left h = absurd cc
+  taken_steps q all l no_row n left h = absurd cc
 
   -- one call more
   steps : Lawful b → (p : Phase C) (all : List Accepted) (call : Call C) → Fits p all → Stepped p all call (after b K p call)
@@ -223,16 +223,16 @@ module _ {C : Type 0} (b : Bench) (K : Charges C) where
 
   denied : (q : Quest C) (e : End C) (n : ℕ) (all : List Accepted) → Fits (ended q e n) all → (e ≡ no_row → ⊥) → (e ≡ no_plan) ↔ NoPlanWithin b K q
   denied q (found c plan k) n all h not_full = (
-    λ e. absurd (let z : ◌≡◌ {A = ℕ} 0 1 = cc in omega arith),
+    λ e. absurd cc,
     λ no. absurd (no plan h.1.is_plan (subst (λ x. K.le x q.bound ≡ true) h.1.costs h.1.within)),
   )
   denied q no_plan n all h not_full = (λ e. h, λ no. refl)
   denied q no_row n all h not_full = absurd (not_full refl)
 
   ends_in_time : (q : Quest C) (p : Phase C) (all : List Accepted) → Fits p all → in_search p ≡ Some q → asked all < q.capacity
-  ends_in_time q resting all h e = absurd (some_none (sym e))
+  ends_in_time q resting all h e = absurd cc
   ends_in_time q (searching q' rows n) all h e = let same : q' ≡ q = cc in subst (λ x. asked all < x.capacity) same (omega (arith, h.paced, h.short))
-  ends_in_time q (ended q' x n) all h e = absurd (some_none (sym e))
+  ends_in_time q (ended q' x n) all h e = absurd cc
 
   pub promised : Lawful b → (calls : List (Call C)) → Promise b K calls
   promised lawful calls = record {

@@ -1,7 +1,7 @@
 -- Steps of a search one after the other, and what the functions on rows do to their number.
-use Rattle.std.proofs.Common.{◌≡◌, ℕ, zero, suc, ◌+◌, ◌<◌, ◌≤◌, Bool, true, false, cond, ◌&&◌, eqb, ltb, List, [], ◌∷◌, ◌++◌, length, get_or, drop, set, Some, None, Option, sym, refl, ap, ◌∙◌, inl, inr, suc-add, zero-add, arith, length-set}
+use Rattle.std.proofs.Common.{◌≡◌, ℕ, zero, suc, ◌+◌, ◌<◌, ◌≤◌, Bool, true, false, cond, ◌&&◌, eqb, ltb, List, [], ◌∷◌, ◌++◌, length, set, Some, None, Option, sym, refl, ap, ◌∙◌, inl, inr, suc-add, zero-add, arith, length-set}
 use Rattle.std.specs.Str.{bytes_eq}
-use Rattle.std.proofs.lemmas.List.{at_drop_more, at_drop_all, length_push}
+use Rattle.std.proofs.lemmas.List.{length_push}
 use Rattle.std.proofs.lemmas.Bool.{cases_Bool, cases_order, cond-true, cond-false, ltb-true}
 use Rattle.tariff.specs.Charges.{Charges}
 use Rattle.search.specs.declared.data.Row.{Row}
@@ -44,25 +44,6 @@ module _ {C : Type 0} (K : Charges C) (rows : List (Row C)) where
     least' = λ k l w. (first k l w).0;
     first' = λ k l w. elim (cases_Bool (K.le (row K.zero K.le rows k).charge (row K.zero K.le rows i).charge)) [ inl e ↦ absurd (let n = (first k (omega arith) w).1 e in omega arith) | inr e ↦ e ];
   })
-
--- a search along the rows, of which those before i have another setting
-module _ {C : Type 0} (s : List ℕ) (rows : List (Row C)) (i : ℕ) where
-  pub seek_here : (r : Row C) → i < length rows → bytes_eq (get_or rows i r).setting s ≡ true → seek s rows ≡ i + seek s (drop i rows) → i ≡ seek s rows
-  seek_here r h e inv =
-      let step : seek s (drop i rows) ≡ cond (bytes_eq (get_or rows i r).setting s) 0 (suc (seek s (drop (i + 1) rows))) = at_drop_more (seek s) rows i r h in
-      let none = cond-true (bytes_eq (get_or rows i r).setting s) 0 (suc (seek s (drop (i + 1) rows))) e in
-      omega arith
-
-  pub seek_on : (r : Row C) → i < length rows → bytes_eq (get_or rows i r).setting s ≡ false → seek s rows ≡ i + seek s (drop i rows) → seek s rows ≡ (i + 1) + seek s (drop (i + 1) rows)
-  seek_on r h e inv =
-      let step : seek s (drop i rows) ≡ cond (bytes_eq (get_or rows i r).setting s) 0 (suc (seek s (drop (i + 1) rows))) = at_drop_more (seek s) rows i r h in
-      let one = cond-false (bytes_eq (get_or rows i r).setting s) 0 (suc (seek s (drop (i + 1) rows))) e in
-      omega arith
-
-  pub seek_end : length rows ≤ i → i ≤ length rows → seek s rows ≡ i + seek s (drop i rows) → length rows ≡ seek s rows
-  seek_end h k inv =
-      let none : seek s (drop i rows) ≡ 0 = at_drop_all (seek s) rows i h in
-      omega arith
 
 pub seek_within : {C : Type 0} (s : List ℕ) (rows : List (Row C)) → seek s rows ≤ length rows
 seek_within s [] = omega arith

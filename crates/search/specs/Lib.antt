@@ -8,3 +8,4 @@ pub mod Counts
 pub mod Left
 pub mod Conclusions
 pub mod Cases
+pub mod Lending

@@ -1,8 +1,7 @@
 -- The queue of waiting rows: their order, and where each of them lies.
-use Rattle.std.specs.Prelude.{◌≡◌, ℕ, ◌<◌, Bool, true, false, cond, List, map, length, get_or, take, ◌==◌, ◌≢◌, nat_lt, slice_index, slice_index_or, slice_set}
-use Rattle.std.specs.declared.cmp.Ordering.TheVariants.{Less, Equal, Greater}
+use Rattle.std.specs.Prelude.{◌≡◌, ℕ, ◌<◌, Bool, true, false, List, map, length, get_or, take, ◌≢◌, slice_index, slice_index_or, slice_set}
 use Rattle.std.specs.declared.cmp.Ordering.{Ordering}
-use Rattle.std.specs.Ordering.{is_lt, ordering_then}
+use Rattle.std.specs.Ordering.{is_lt, nat_cmp, ordering_then}
 use Rattle.std.specs.Slice.Heapsort.{IsHeapWithin}
 use Rattle.std.specs.List.Sorted.{IsPermutation}
 use Rattle.tariff.specs.Totals.{ordered}
@@ -21,12 +20,9 @@ places {C} table = map (λ (e : Entry C). e.place) table
 abbrev pub queue : {C : Type 0} → ℕ → List (Entry C) → List (Waiting C)
 queue count table = take count (waitings table)
 
-abbrev pub numbered : ℕ → ℕ → Ordering
-numbered m n = cond (nat_lt m n) Less (cond (m == n) Equal Greater)
-
 -- by charge, then by row number
 abbrev pub order : {C : Type 0} → (C → C → Bool) → Waiting C → Waiting C → Ordering
-order le a b = ordering_then (ordered le a.charge b.charge) (numbered a.row b.row)
+order le a b = ordering_then (ordered le a.charge b.charge) (nat_cmp a.row b.row)
 
 -- a comes before b
 abbrev pub sooner : {C : Type 0} → (C → C → Bool) → Waiting C → Waiting C → Bool

@@ -8,6 +8,8 @@ mod conclude;
 mod data;
 mod ended;
 mod entry;
+mod marker;
+mod open;
 mod phase;
 mod plan;
 mod queue;
@@ -23,7 +25,7 @@ pub use phase::{Advanced, Ended, Ending, Refused, Rest, Search, Tables, Taken};
 pub use rest::begin;
 pub use searching::advance;
 
-// The worked cases hold of the definitions.
+// The worked cases hold of the definitions. The number says nothing: what is asked for is the clause.
 pub fn cases_stand() -> u8
     ensures { Cases }
 {

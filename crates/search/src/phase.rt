@@ -3,6 +3,7 @@ ghost use Rattle.std.specs.Prelude.{◌≡◌, ◌+◌, ◌≤◌};
 
 use crate::data::Row;
 use crate::entry::Entry;
+use crate::sizes::{Limits, Sizes};
 use task::{Refusal, Task};
 
 // The tables beside the actions, lent for one call.
@@ -20,19 +21,24 @@ pub struct Rest {
     pub(crate) task: Task,
 }
 
-// A planner that searches: what it was asked, and how many rows are used, wait and were expanded.
-pub struct Search<C> {
+// What a search is asked: a plan of the task from the start, within the limits.
+pub struct Asked<C> {
     pub(crate) task: Task,
     pub(crate) start: [u8; 64],
-    pub(crate) bound: C,
-    pub(crate) capacity: usize,
-    pub(crate) used: usize,
-    pub(crate) waiting: usize,
-    pub(crate) expanded: usize,
-    ghost numbers: { (used ≤ capacity) × (capacity ≤ 65535) × (waiting ≤ used) × (expanded + waiting ≡ used) },
+    pub(crate) limits: Limits<C>,
+    ghost few: { limits.capacity ≤ 65535 },
 }
 
-// How a search ended: with a plan and its charge, with no plan, with no row left.
+// A planner that searches: what it was asked, how many rows are used and wait, and how many were expanded.
+pub struct Search<C> {
+    pub(crate) asked: Asked<C>,
+    pub(crate) sizes: Sizes,
+    pub(crate) expanded: usize,
+    ghost numbers: { (sizes.used ≤ asked.limits.capacity) × (sizes.waiting ≤ sizes.used) × (expanded + sizes.waiting ≡ sizes.used) },
+}
+
+// How a search ended: with a plan and its charge, with no plan, with no row left. No Result: none of the
+// three is an error.
 #[derive(Clone, Copy)]
 pub enum Ending<C> {
     Found(C),
@@ -40,21 +46,19 @@ pub enum Ending<C> {
     Full,
 }
 
-// A planner whose search ended: how, how many rows were expanded, how many actions the plan has, and how
-// many of them were taken.
+// A planner whose search ended: what it was asked, how many rows were expanded, how it ended, how many
+// actions the plan has, and how many of them were taken.
 pub struct Ended<C> {
-    pub(crate) task: Task,
-    pub(crate) start: [u8; 64],
-    pub(crate) bound: C,
-    pub(crate) capacity: usize,
+    pub(crate) asked: Asked<C>,
     pub(crate) expanded: usize,
     pub(crate) ending: Ending<C>,
     pub(crate) planned: usize,
     pub(crate) taken: usize,
-    ghost numbers: { (planned ≤ capacity) × (capacity ≤ 65535) },
+    ghost few: { planned ≤ asked.limits.capacity },
 }
 
-// What an Advance came to, with the number of settings expanded so far, and a plan's charge.
+// What an Advance came to, with the number of settings expanded so far, and a plan's charge. No Result: none
+// of the four is an error.
 pub enum Advanced<C> {
     Working(Search<C>, usize),
     Found(Ended<C>, C, usize),

@@ -1,24 +1,14 @@
-// The queue of waiting rows: a binary heap in the first places of a table, least first.
-ghost use Rattle.std.specs.Prelude.{◌≡◌, ℕ, ◌+◌, ◌-◌, ◌*◌, ◌<◌, ◌≤◌, ◌∷◌, length, slice_index_or, slice_set};
+// The queue of waiting rows: a binary heap in the first places of a lent table, least first.
+ghost use Rattle.std.specs.Prelude.{◌≡◌, ℕ, ◌+◌, ◌-◌, ◌*◌, ◌<◌, ◌≤◌, ◌∷◌, length, IfSome, Some, slice_get, slice_index_or, slice_set};
 ghost use Rattle.std.specs.List.Sorted.{IsPermutation};
 ghost use Rattle.std.specs.List.{swap};
 ghost use Rattle.std.specs.BinaryHeap.Sift.{SiftsUp, SiftsDown, IsGreaterChild};
+ghost use Rattle.search.specs.declared.entry.Waiting.{Waiting};
+ghost use Rattle.search.specs.Lending.{SameTable};
 ghost use Rattle.search.specs.Queues.{waitings, places, queue, sooner, Queued, Least, Lowered, turned_order, Placed, Fresh};
 
 use crate::entry::{Entry, Waiting};
-use std::cmp::Ordering;
 use tariff::Tariff;
-
-// Does one row come before the other: a smaller charge, or the same and a lower number?
-fn is_sooner<T: Tariff>(tariff: &T, a: Waiting<T::Charge>, b: Waiting<T::Charge>) -> bool
-    ensures { result ≡ sooner (T.charges tariff.now).le a b }
-{
-    match tariff.compare(a.charge, b.charge) {
-        Ordering::Less => true,
-        Ordering::Equal => a.row < b.row,
-        Ordering::Greater => false,
-    }
-}
 
 // The row that waits at a place.
 pub(crate) fn waiting_at<C: Copy>(table: &[Entry<C>], at: usize) -> Waiting<C>
@@ -28,178 +18,197 @@ pub(crate) fn waiting_at<C: Copy>(table: &[Entry<C>], at: usize) -> Waiting<C>
     table[at].waiting
 }
 
-// Lets a row wait at a place.
-fn put<C: Copy>(table: &mut [Entry<C>], at: usize, waiting: Waiting<C>)
-    requires { at < length table.old }
-    ensures waits { waitings table.new ≡ slice_set (waitings table.old) at waiting }
-    ensures places { places table.new ≡ places table.old }
-{
-    table[at].waiting = waiting;
+// The rows that wait, in the first `count` places of a table: first the least by the tariff.
+#[derive(Drop)]
+pub(crate) struct Queue<'t, 'q, T: Tariff> {
+    pub(crate) tariff: &'t T,
+    pub(crate) table: &'q mut [Entry<T::Charge>],
+    pub(crate) count: usize,
+    ghost fits: { (count ≤ length table.now) × (count ≤ 65536) },
 }
 
-// Notes the place of a row, if the table has a note for it.
-fn note<C: Copy>(table: &mut [Entry<C>], row: u16, place: usize)
-    requires { place < 65536 }
-    ensures waits { waitings table.new ≡ waitings table.old }
-    ensures places { places table.new ≡ slice_set (places table.old) row place }
-{
-    let at = row as usize;
-    if at < table.len() {
-        table[at].place = place as u16;
+impl<T: Tariff> Queue<'_, '_, T> {
+    // Does one row come before the other: a smaller charge, or the same and a lower number?
+    fn is_sooner(&self, a: Waiting<T::Charge>, b: Waiting<T::Charge>) -> bool
+        ensures { result ≡ sooner (T.charges self.now.tariff.now).le a b }
+    {
+        let by_charge = self.tariff.compare(a.charge, b.charge);
+        by_charge.then(a.row.cmp(&b.row)).is_lt()
     }
-}
 
-// The place that is noted for a row; past each place where there is no note.
-fn place_of<C: Copy>(table: &[Entry<C>], row: u16) -> usize
-    ensures { result ≡ slice_index_or (places table.now) row 65536 }
-{
-    let at = row as usize;
-    if at < table.len() {
-        table[at].place as usize
-    } else {
-        65_536
+    // The row that waits at a place.
+    fn waiting_at(&self, at: usize) -> Waiting<T::Charge>
+        requires { at < length self.now.table.now }
+        ensures { result ≡ slice_index_or (waitings self.now.table.now) at result }
+    {
+        waiting_at(self.table, at)
     }
-}
 
-// Exchanges two waiting rows, and notes where they are.
-fn exchange<C: Copy>(table: &mut [Entry<C>], count: usize, first: usize, second: usize)
-    requires { (first < count) × (second < count) × (count ≤ length table.old) × (length table.old ≤ 65536) }
-    ensures swapped { queue count table.new ≡ swap (queue count table.old) first second }
-    ensures noted { Placed count table.old → Placed count table.new }
-{
-    let down = waiting_at(table, first);
-    let up = waiting_at(table, second);
-    put(table, first, up);
-    put(table, second, down);
-    note(table, up.row, first);
-    note(table, down.row, second);
-}
-
-// Moves the row at `start` up, until none above it comes later.
-fn rise<T: Tariff>(tariff: &T, table: &mut [Entry<T::Charge>], count: usize, start: usize)
-    requires { (start < count) × (count ≤ length table.old) × (length table.old ≤ 65536) }
-    ensures shuffled { IsPermutation (queue count table.old) (queue count table.new) }
-    ensures rises { SiftsUp (turned_order (T.charges tariff.now).le) (queue count table.old) start (queue count table.new) }
-    ensures noted { Placed count table.old → Placed count table.new }
-{
-    let mut place = start;
-    while 0 < place {
-        let above = (place - 1) / 2;
-        let here = waiting_at(table, place);
-        let up = waiting_at(table, above);
-        if !is_sooner(tariff, here, up) {
-            return;
+    // Lets a row wait at a place, and notes the place, if the table has a note for the row.
+    fn put(&mut self, at: usize, waiting: Waiting<T::Charge>)
+        requires { at < self.old.count }
+        ensures waits { waitings self.new.table.now ≡ slice_set (waitings self.old.table.now) at waiting }
+        ensures places { places self.new.table.now ≡ slice_set (places self.old.table.now) waiting.row at }
+        ensures kept { SameTable self.old.table self.new.table × (self.new.tariff ≡ self.old.tariff) }
+        ensures count { self.new.count ≡ self.old.count }
+    {
+        self.table[at].waiting = waiting;
+        let note = waiting.row as usize;
+        // By its number: of what is written through `get_mut` only the length is known afterwards.
+        if note < self.table.len() {
+            self.table[note].place = at as u16;
         }
-        exchange(table, count, above, place);
-        place = above;
     }
-}
 
-// The sooner of the rows below `place`.
-fn sooner_below<T: Tariff>(
-    tariff: &T,
-    table: &[Entry<T::Charge>],
-    count: usize,
-    place: usize,
-) -> usize
-    requires { (2 * place + 1 < count) × (count ≤ length table.now) }
-    ensures bound { (result < count) × (place * 2 + 1 ≤ result) × (result ≤ place * 2 + 2) }
-    ensures best { IsGreaterChild (turned_order (T.charges tariff.now).le) (queue count table.now) place result count }
-{
-    let left = 2 * place + 1;
-    if count <= left + 1 {
-        return left;
+    // The place that is noted for a row, if the table has a note for it.
+    fn place_of(&self, row: u16) -> Option<usize>
+        ensures { result ≡ slice_get (places self.now.table.now) row }
+    {
+        let entry = self.table.get(row as usize)?;
+        Some(entry.place as usize)
     }
-    let one = waiting_at(table, left);
-    let other = waiting_at(table, left + 1);
-    if is_sooner(tariff, one, other) {
-        return left;
-    }
-    left + 1
-}
 
-// Moves the first row down, until none below it comes sooner.
-fn sink<T: Tariff>(tariff: &T, table: &mut [Entry<T::Charge>], count: usize)
-    requires { (count ≤ length table.old) × (length table.old ≤ 65536) }
-    ensures shuffled { IsPermutation (queue count table.old) (queue count table.new) }
-    ensures sinks { SiftsDown (turned_order (T.charges tariff.now).le) (queue count table.old) 0 count (queue count table.new) }
-    ensures noted { Placed count table.old → Placed count table.new }
-{
-    let mut place = 0;
-    while place < count / 2 {
-        let below = sooner_below(tariff, table, count, place);
-        let here = waiting_at(table, place);
-        let down = waiting_at(table, below);
-        if !is_sooner(tariff, down, here) {
-            return;
+    // The place where a row waits, if its note tells of one.
+    fn find(&self, row: u16) -> Option<usize>
+        ensures found { IfSome result (λ k. (k < self.now.count) × ((d : Waiting T.Charge) → (slice_index_or (waitings self.now.table.now) k d).row ≡ row)) }
+        ensures noted { IfSome result (λ k. slice_get (places self.now.table.now) row ≡ Some k) }
+        ensures each { Placed self.now.count self.now.table.now → (k : ℕ) (d : Waiting T.Charge) → k < self.now.count → (slice_index_or (queue self.now.count self.now.table.now) k d).row ≡ row → result ≡ Some k }
+    {
+        let place = self.place_of(row)?;
+        if place < self.count && self.waiting_at(place).row == row {
+            return Some(place);
         }
-        exchange(table, count, place, below);
-        place = below;
+        None
     }
-}
 
-// Puts a row into the queue that the first `count` places hold.
-pub(crate) fn push<T: Tariff>(
-    tariff: &T,
-    table: &mut [Entry<T::Charge>],
-    count: usize,
-    waiting: Waiting<T::Charge>,
-)
-    requires { (count < length table.old) × (length table.old ≤ 65536) }
-    ensures held { IsPermutation (waiting ∷ queue count table.old) (queue (count + 1) table.new) }
-    ensures queued { Queued (T.charges tariff.now).le (queue count table.old) → Queued (T.charges tariff.now).le (queue (count + 1) table.new) }
-    ensures noted { Fresh waiting (queue count table.old) → waiting.row < length table.old → Placed count table.old → Placed (count + 1) table.new }
-{
-    put(table, count, waiting);
-    note(table, waiting.row, count);
-    rise(tariff, table, count + 1, count);
-}
+    // Exchanges two waiting rows.
+    fn exchange(&mut self, first: usize, second: usize)
+        requires { (first < self.old.count) × (second < self.old.count) }
+        ensures swapped { queue self.old.count self.new.table.now ≡ swap (queue self.old.count self.old.table.now) first second }
+        ensures noted { Placed self.old.count self.old.table.now → Placed self.old.count self.new.table.now }
+        ensures kept { SameTable self.old.table self.new.table × (self.new.tariff ≡ self.old.tariff) }
+        ensures count { self.new.count ≡ self.old.count }
+    {
+        let down = self.waiting_at(first);
+        let up = self.waiting_at(second);
+        self.put(first, up);
+        self.put(second, down);
+    }
 
-// Takes the first of the queue that the first `count` places hold.
-pub(crate) fn pop<T: Tariff>(
-    tariff: &T,
-    table: &mut [Entry<T::Charge>],
-    count: usize,
-) -> Waiting<T::Charge>
-    requires { (0 < count) × (count ≤ length table.old) × (length table.old ≤ 65536) }
-    ensures held { IsPermutation (queue count table.old) (result ∷ queue (count - 1) table.new) }
-    ensures queued { Queued (T.charges tariff.now).le (queue count table.old) → Queued (T.charges tariff.now).le (queue (count - 1) table.new) }
-    ensures least { Queued (T.charges tariff.now).le (queue count table.old) → Least (T.charges tariff.now).le result (queue count table.old) }
-    ensures noted { Placed count table.old → Placed (count - 1) table.new }
-{
-    let first = waiting_at(table, 0);
-    let last = waiting_at(table, count - 1);
-    put(table, 0, last);
-    note(table, last.row, 0);
-    sink(tariff, table, count - 1);
-    first
-}
+    // Moves the row at `start` up, until none above it comes later.
+    fn rise(&mut self, start: usize)
+        requires { start < self.old.count }
+        ensures shuffled { IsPermutation (queue self.old.count self.old.table.now) (queue self.old.count self.new.table.now) }
+        ensures rises { SiftsUp (turned_order (T.charges self.old.tariff.now).le) (queue self.old.count self.old.table.now) start (queue self.old.count self.new.table.now) }
+        ensures noted { Placed self.old.count self.old.table.now → Placed self.old.count self.new.table.now }
+        ensures kept { SameTable self.old.table self.new.table × (self.new.tariff ≡ self.old.tariff) }
+        ensures count { self.new.count ≡ self.old.count }
+    {
+        let mut place = start;
+        // A counted loop: the heap climbs by halves, which no iterator of the library does.
+        while 0 < place {
+            let above = (place - 1) / 2;
+            let here = self.waiting_at(place);
+            let up = self.waiting_at(above);
+            if !self.is_sooner(here, up) {
+                return;
+            }
+            self.exchange(above, place);
+            place = above;
+        }
+    }
 
-// Lets a row that waits in the first `count` places come as early as its new charge says, if that is
-// earlier.
-pub(crate) fn lower<T: Tariff>(
-    tariff: &T,
-    table: &mut [Entry<T::Charge>],
-    count: usize,
-    waiting: Waiting<T::Charge>,
-) -> bool
-    requires { (count ≤ length table.old) × (length table.old ≤ 65536) }
-    ensures held { Placed count table.old → Lowered (T.charges tariff.now).le waiting (queue count table.old) (queue count table.new) result }
-    ensures queued { Queued (T.charges tariff.now).le (queue count table.old) → Queued (T.charges tariff.now).le (queue count table.new) }
-    ensures noted { Placed count table.old → Placed count table.new }
-{
-    let place = place_of(table, waiting.row);
-    if place >= count {
-        return false;
+    // The sooner of the rows below `place`.
+    fn sooner_below(&self, place: usize) -> usize
+        requires { 2 * place + 1 < self.now.count }
+        ensures bound { (result < self.now.count) × (place * 2 + 1 ≤ result) × (result ≤ place * 2 + 2) }
+        ensures best { IsGreaterChild (turned_order (T.charges self.now.tariff.now).le) (queue self.now.count self.now.table.now) place result self.now.count }
+    {
+        let left = 2 * place + 1;
+        if self.count <= left + 1 {
+            return left;
+        }
+        let one = self.waiting_at(left);
+        let other = self.waiting_at(left + 1);
+        if self.is_sooner(one, other) {
+            return left;
+        }
+        left + 1
     }
-    let held = waiting_at(table, place);
-    if held.row != waiting.row {
-        return false;
+
+    // Moves the first row down, until none below it comes sooner.
+    fn sink(&mut self)
+        ensures shuffled { IsPermutation (queue self.old.count self.old.table.now) (queue self.old.count self.new.table.now) }
+        ensures sinks { SiftsDown (turned_order (T.charges self.old.tariff.now).le) (queue self.old.count self.old.table.now) 0 self.old.count (queue self.old.count self.new.table.now) }
+        ensures noted { Placed self.old.count self.old.table.now → Placed self.old.count self.new.table.now }
+        ensures kept { SameTable self.old.table self.new.table × (self.new.tariff ≡ self.old.tariff) }
+        ensures count { self.new.count ≡ self.old.count }
+    {
+        let mut place = 0;
+        // A counted loop: the heap sinks by doubles, which no iterator of the library does.
+        while place < self.count / 2 {
+            let below = self.sooner_below(place);
+            let here = self.waiting_at(place);
+            let down = self.waiting_at(below);
+            if !self.is_sooner(down, here) {
+                return;
+            }
+            self.exchange(place, below);
+            place = below;
+        }
     }
-    if !is_sooner(tariff, waiting, held) {
-        return false;
+
+    // Puts a row into the queue.
+    pub(crate) fn push(&mut self, waiting: Waiting<T::Charge>)
+        requires { (self.old.count < length self.old.table.now) × (self.old.count < 65536) }
+        ensures held { IsPermutation (waiting ∷ queue self.old.count self.old.table.now) (queue (self.old.count + 1) self.new.table.now) }
+        ensures queued { Queued (T.charges self.old.tariff.now).le (queue self.old.count self.old.table.now) → Queued (T.charges self.old.tariff.now).le (queue (self.old.count + 1) self.new.table.now) }
+        ensures noted { Fresh waiting (queue self.old.count self.old.table.now) → waiting.row < length self.old.table.now → Placed self.old.count self.old.table.now → Placed (self.old.count + 1) self.new.table.now }
+        ensures kept { SameTable self.old.table self.new.table × (self.new.tariff ≡ self.old.tariff) }
+        ensures count { self.new.count ≡ self.old.count + 1 }
+    {
+        let last = self.count;
+        self.count += 1;
+        self.put(last, waiting);
+        self.rise(last);
     }
-    put(table, place, waiting);
-    rise(tariff, table, count, place);
-    true
+
+    // Takes the first of the queue.
+    pub(crate) fn pop(&mut self) -> Waiting<T::Charge>
+        requires { 0 < self.old.count }
+        ensures held { IsPermutation (queue self.old.count self.old.table.now) (result ∷ queue (self.old.count - 1) self.new.table.now) }
+        ensures queued { Queued (T.charges self.old.tariff.now).le (queue self.old.count self.old.table.now) → Queued (T.charges self.old.tariff.now).le (queue (self.old.count - 1) self.new.table.now) }
+        ensures least { Queued (T.charges self.old.tariff.now).le (queue self.old.count self.old.table.now) → Least (T.charges self.old.tariff.now).le result (queue self.old.count self.old.table.now) }
+        ensures noted { Placed self.old.count self.old.table.now → Placed (self.old.count - 1) self.new.table.now }
+        ensures kept { SameTable self.old.table self.new.table × (self.new.tariff ≡ self.old.tariff) }
+        ensures count { self.new.count + 1 ≡ self.old.count }
+    {
+        let first = self.waiting_at(0);
+        let end = self.count - 1;
+        let last = self.waiting_at(end);
+        self.put(0, last);
+        self.count = end;
+        self.sink();
+        first
+    }
+
+    // Lets a waiting row come as early as its new charge says, if that is earlier.
+    pub(crate) fn lower(&mut self, waiting: Waiting<T::Charge>) -> bool
+        ensures held { Placed self.old.count self.old.table.now → Lowered (T.charges self.old.tariff.now).le waiting (queue self.old.count self.old.table.now) (queue self.old.count self.new.table.now) result }
+        ensures queued { Queued (T.charges self.old.tariff.now).le (queue self.old.count self.old.table.now) → Queued (T.charges self.old.tariff.now).le (queue self.old.count self.new.table.now) }
+        ensures noted { Placed self.old.count self.old.table.now → Placed self.old.count self.new.table.now }
+        ensures kept { SameTable self.old.table self.new.table × (self.new.tariff ≡ self.old.tariff) }
+        ensures count { self.new.count ≡ self.old.count }
+    {
+        let Some(place) = self.find(waiting.row) else {
+            return false;
+        };
+        let held = self.waiting_at(place);
+        if !self.is_sooner(waiting, held) {
+            return false;
+        }
+        self.put(place, waiting);
+        self.rise(place);
+        true
+    }
 }

@@ -3,10 +3,11 @@ ghost use Rattle.std.specs.Prelude.{◌≡◌, ℕ, ◌≤◌, List, length};
 ghost use Rattle.task.specs.declared.data.Action.{Action};
 ghost use Rattle.task.specs.Benches.{Bench, Lawful, bench_of};
 ghost use Rattle.search.specs.Session.{Call, beginning, begin_fault};
-ghost use Rattle.search.specs.Left.{lengths, OfTask, LeftRest, Began, refusal_of, GivenBack, IfDone, Laid};
+ghost use Rattle.search.specs.Left.{lent, on_entry, on_exit, Untouched, OfTask, LeftRest, Began, refusal_of, GivenBack, IfDone, Laid};
 
-use crate::checks::begin_fault;
-use crate::phase::{Refused, Rest, Search, Tables};
+use crate::checks::check_begin;
+use crate::phase::{Asked, Refused, Rest, Search, Tables};
+use crate::sizes::{Limits, Sizes};
 use crate::steps::{begin_rows, clear_first};
 use tariff::Tariff;
 use task::{Setting, Task};
@@ -29,6 +30,21 @@ impl Rest {
     }
 }
 
+impl<C: Copy> Asked<C> {
+    // The planner at rest again, with its task.
+    pub(crate) fn give_up(self) -> Rest
+        ensures { result.task ≡ self.task }
+    {
+        // Each field is named, here and in both `abandon`: what is no Drop is taken apart whole.
+        let Asked {
+            task,
+            start: _,
+            limits: _,
+        } = self;
+        Rest { task }
+    }
+}
+
 // Begins a search for a plan from the start that costs at most the bound, with as many rows as the row
 // table has places.
 pub fn begin<T: Tariff>(
@@ -38,45 +54,43 @@ pub fn begin<T: Tariff>(
     start: Setting,
     bound: T::Charge,
 ) -> Result<Search<T::Charge>, Refused<Rest>>
-    ensures promised { (b : Bench) (calls : List (Call T.Charge)) (actions : ℕ) → Lawful b → LeftRest b (T.charges tariff.now) calls rest → Began b (T.charges tariff.now) calls (beginning start bound (lengths actions (length tables.entry.rows.now) (length tables.entry.queue.now) (length tables.entry.plan.now) (length tables.entry.marks.now) (length tables.entry.work.now))) result tables.exit.0.now tables.exit.1.0.now tables.exit.1.1.1.0.now tables.exit.1.1.1.1.0.now }
-    ensures refused { (b : Bench) (actions : ℕ) → OfTask rest.task b → refusal_of result ≡ begin_fault b start (lengths actions (length tables.entry.rows.now) (length tables.entry.queue.now) (length tables.entry.plan.now) (length tables.entry.marks.now) (length tables.entry.work.now)) }
-    ensures stays { GivenBack rest ((tables.exit.0.now ≡ tables.entry.rows.now) × (tables.exit.1.0.now ≡ tables.entry.queue.now) × (tables.exit.1.1.0.now ≡ tables.entry.plan.now) × (tables.exit.1.1.1.0.now ≡ tables.entry.marks.now) × (tables.exit.1.1.1.1.0.now ≡ tables.entry.work.now)) result }
-    ensures laid { IfDone (λ s. Laid rest (T.charges tariff.now).zero start bound s tables.entry.rows.now tables.exit.0.now tables.entry.plan.now tables.exit.1.1.0.now tables.entry.marks.now tables.exit.1.1.1.0.now tables.entry.work.now tables.exit.1.1.1.1.0.now) result }
+    ensures promised { (b : Bench) (calls : List (Call T.Charge)) (actions : ℕ) → Lawful b → LeftRest b (T.charges tariff.now) calls rest → Began b (T.charges tariff.now) calls (beginning start bound (lent actions tables.entry)) result (on_exit tables.exit) }
+    ensures refused { (b : Bench) (actions : ℕ) → OfTask rest.task b → refusal_of result ≡ begin_fault b start (lent actions tables.entry) }
+    ensures stays { GivenBack rest (Untouched (on_entry tables.entry) (on_exit tables.exit)) result }
+    ensures laid { IfDone (λ s. Laid rest (T.charges tariff.now).zero start bound s (on_entry tables.entry) (on_exit tables.exit)) result }
 {
-    let Tables {
-        rows,
-        queue,
-        plan,
-        marks,
-        work,
-    } = tables;
-    let capacity = rows.len();
-    let fault = begin_fault(
-        &rest.task,
-        start,
-        capacity,
-        queue.len(),
-        plan.len(),
-        marks.len(),
-        work.len(),
-    );
-    if let Some(refusal) = fault {
+    // Without `?`: a refusal takes the phase with it, and what is not refused keeps it.
+    if let Err(refusal) = check_begin(&rest.task, start, tables.lengths()) {
         return Err(Refused {
             phase: rest,
             refusal,
         });
     }
+    let Tables {
+        rows,
+        queue,
+        marks,
+        work,
+        ..
+    } = tables;
+    let capacity = rows.len();
     let Rest { task } = rest;
     begin_rows(tariff, rows, queue, capacity, start);
     clear_first(marks, task.actions);
     clear_first(work, 4096);
-    Ok(Search {
+    let limits = Limits { bound, capacity };
+    let asked = Asked {
         task,
         start,
-        bound,
-        capacity,
+        limits,
+    };
+    let sizes = Sizes {
         used: 1,
         waiting: 1,
+    };
+    Ok(Search {
+        asked,
+        sizes,
         expanded: 0,
     })
 }

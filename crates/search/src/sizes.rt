@@ -1,4 +1,6 @@
 // The numbers of a search, and how it stands.
+ghost use Rattle.std.specs.Prelude.{◌≡◌};
+ghost use Rattle.search.specs.declared.sizes.Progress.TheVariants.{Crowded};
 
 // How many rows are used, and how many of them wait in the queue.
 #[derive(Clone, Copy)]
@@ -14,12 +16,9 @@ pub struct Limits<C> {
     pub capacity: usize,
 }
 
-// The sizes after a change, and whether no row was left for one more.
+// No row was left for one more.
 #[derive(Clone, Copy)]
-pub struct Filled {
-    pub sizes: Sizes,
-    pub full: bool,
-}
+pub struct Full;
 
 // The row that is expanded: its number, its setting and its charge.
 #[derive(Clone, Copy)]
@@ -36,6 +35,14 @@ pub enum Progress {
     AtGoal(u16),
     Exhausted,
     Crowded,
+}
+
+impl From<Full> for Progress {
+    ghost from_gives = { λ _ end. end ≡ Crowded };
+
+    fn from(_full: Full) -> Progress {
+        Progress::Crowded
+    }
 }
 
 // What some steps came to: the sizes, how many rows were expanded, and how the search stands.

@@ -8,7 +8,7 @@ ghost use Rattle.search_tests.specs.Noise.{noisy_marking};
 
 use rules::{Atoms, Rule};
 use std::cmp::Ordering;
-use tariff::{Added, Tariff};
+use tariff::Tariff;
 use task::{Action, Setting, Task};
 
 mod rates;
@@ -41,11 +41,11 @@ impl Tariff for Rates {
         a.cmp(&b)
     }
 
-    fn add(&self, charge: u64, action: &Action, bound: u64) -> Added<u64> {
-        match charge.checked_add(self.of(action)) {
-            Some(sum) if sum <= bound => Added::Within(sum),
-            _ => Added::Over,
-        }
+    // Time adds alike over its own charge; a tariff of a user's own brings its whole `add`.
+    fn add(&self, charge: u64, action: &Action, bound: u64) -> Option<u64> {
+        charge
+            .checked_add(self.of(action))
+            .filter(|sum| *sum <= bound)
     }
 }
 
@@ -74,9 +74,9 @@ fn disturb(offset: usize, marks: &mut [u8])
     requires { offset < 256 }
     ensures { (k : ℕ) → k < length marks.new → slice_index marks.new k ≡ (if nat_eq ((offset + k % 3) % 3) 0 then 1 else slice_index marks.old k) }
 {
-    for k in 0..marks.len() {
+    for (k, mark) in marks.iter_mut().enumerate() {
         if (offset + k % 3) % 3 == 0 {
-            marks[k] = 1;
+            *mark = 1;
         }
     }
 }

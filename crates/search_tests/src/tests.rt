@@ -6,10 +6,13 @@ use search::{
     Advanced, Ended, Entry, Refused, Rest, Row, Search, Tables, Taken, Waiting, advance, begin,
     take,
 };
+use std::alloc::{AllocError, Global};
+use std::process::Abort;
 use std::test::Fail;
 use tariff::{Pressed, Presses, Time};
 use task::Refusal;
 
+// Keypad's book. The tests of `validate` spell it too: a crate that both use would hold these lines and no more.
 const KEYPAD: [u8; 119] = [
     1, 0, 1, 0, 3, 1, 0, 1, 0, 2, 1, 0, 1, 0, 2, 1, 0, 1, 0, 2, 12, 0, 2, 0, 2, 0, 0, 0, 1, 0, 1,
     1, 0, 0, 0, 1, 12, 0, 2, 0, 2, 0, 0, 0, 1, 0, 1, 1, 0, 1, 0, 2, 16, 0, 2, 0, 5, 0, 0, 0, 1, 0,
@@ -22,7 +25,22 @@ const FORK: [u8; 60] = [
     1, 1, 0, 0, 0, 1, 12, 0, 2, 0, 3, 0, 0, 0, 1, 0, 1, 1, 0, 1, 0, 2, 3, 0, 3, 0, 1, 0, 2,
 ];
 
-// How a search came out: an answer's name, a charge, the count, and the plan's first actions and length.
+// A bench that was read, and its actions.
+#[derive(Clone, Copy)]
+struct Bench<'a> {
+    task: Task,
+    actions: &'a [Action],
+}
+
+// What is searched for, and by how many steps at once.
+#[derive(Clone, Copy)]
+struct Asked<C> {
+    start: Setting,
+    bound: C,
+    steps: usize,
+}
+
+// How a search came out: an answer's name, a charge, and the count.
 #[derive(Clone, Copy, PartialEq, Eq, Debug)]
 enum Told<C> {
     Found(C, usize),
@@ -32,355 +50,14 @@ enum Told<C> {
     Refused(u8, usize),
 }
 
-// A plan that was taken, action by action, and the number that ended it.
-#[derive(Clone, Copy, PartialEq, Eq, Debug)]
+// The actions of a plan that were taken, and the number of the refusal that ended them.
+#[derive(PartialEq, Eq, Debug, Drop)]
 struct Walked {
-    actions: [u16; 8],
-    count: usize,
-    last: u8,
+    actions: Vec<u16>,
+    last: Option<u8>,
 }
 
-// Takes the plan's actions one by one, and gives the search up.
-fn take_all<T: Tariff>(
-    tariff: &T,
-    actions: &[Action],
-    plan: &[u16],
-    ended: Ended<T::Charge>,
-) -> (Rest, Walked) {
-    let mut walked = Walked {
-        actions: [0; 8],
-        count: 0,
-        last: 0,
-    };
-    let mut phase = ended;
-    for i in 0..8 {
-        match take(tariff, actions, plan, phase) {
-            Ok(taken) => {
-                let Taken {
-                    ended,
-                    action,
-                    remaining: _,
-                } = taken;
-                walked.actions[i] = action;
-                walked.count = i + 1;
-                phase = ended;
-            }
-            Err(refused) => {
-                let Refused { phase, refusal } = refused;
-                walked.last = refusal.number();
-                return (phase.abandon(), walked);
-            }
-        }
-    }
-    (phase.abandon(), walked)
-}
-
-// What an Advance came to; an ended search is walked through and given up.
-fn settle<T: Tariff>(
-    tariff: &T,
-    actions: &[Action],
-    plan: &[u16],
-    advanced: Advanced<T::Charge>,
-) -> (Rest, Told<T::Charge>, Walked) {
-    match advanced {
-        Advanced::Found(ended, charge, count) => {
-            let (rest, walked) = take_all(tariff, actions, plan, ended);
-            (rest, Told::Found(charge, count), walked)
-        }
-        Advanced::NoPlan(ended, count) => {
-            let (rest, walked) = take_all(tariff, actions, plan, ended);
-            (rest, Told::NoPlan(count), walked)
-        }
-        Advanced::Full(ended, count) => {
-            let (rest, walked) = take_all(tariff, actions, plan, ended);
-            (rest, Told::Full(count), walked)
-        }
-        Advanced::Working(search, count) => {
-            let walked = Walked {
-                actions: [0; 8],
-                count: 0,
-                last: 0,
-            };
-            (search.abandon(), Told::Working(count), walked)
-        }
-    }
-}
-
-// One search over these rows and this queue, advanced by so many steps at once; the planner is at rest again
-// afterwards.
-fn search_over<T: Tariff, R: Rule>(
-    tariff: &T,
-    rule: &R,
-    rest: Rest,
-    actions: &[Action],
-    start: Setting,
-    bound: T::Charge,
-    rows: &mut [Row<T::Charge>],
-    queue: &mut [Entry<T::Charge>],
-    steps: usize,
-) -> (Rest, Told<T::Charge>, Walked) {
-    let mut plan = [9; 64];
-    let mut marks = [9; 8];
-    let mut work = [9; 4096];
-    let none = path_of([0; 8], 0, 0);
-    let lent = Tables {
-        rows: &mut *rows,
-        queue: &mut *queue,
-        plan: &mut plan,
-        marks: &mut marks,
-        work: &mut work,
-    };
-    let search = match begin(tariff, rest, lent, start, bound) {
-        Ok(search) => search,
-        Err(refused) => {
-            let Refused { phase, refusal } = refused;
-            return (phase, Told::Refused(refusal.number(), refusal.place), none);
-        }
-    };
-    let lent = Tables {
-        rows: &mut *rows,
-        queue: &mut *queue,
-        plan: &mut plan,
-        marks: &mut marks,
-        work: &mut work,
-    };
-    match advance(tariff, rule, actions, search, lent, steps) {
-        Ok(advanced) => settle(tariff, actions, &plan, advanced),
-        Err(refused) => {
-            let Refused { phase, refusal } = refused;
-            let told = Told::Refused(refusal.number(), refusal.place);
-            (phase.abandon(), told, none)
-        }
-    }
-}
-
-// A search whose charges are numbers, with so many rows, up to 64.
-fn searched<T: Tariff<Charge = u64>, R: Rule>(
-    tariff: &T,
-    rule: &R,
-    task: Task,
-    actions: &[Action],
-    start: Setting,
-    bound: u64,
-    places: usize,
-    steps: usize,
-) -> (Told<u64>, Walked) {
-    let mut rows = [spare_row(9); 64];
-    let mut queue = [spare_entry(9); 64];
-    let part = &mut rows[0..places.min(64)];
-    let rest = Rest::new(task);
-    let (rest, told, walked) = search_over(
-        tariff, rule, rest, actions, start, bound, part, &mut queue, steps,
-    );
-    let _ = rest.into_task();
-    (told, walked)
-}
-
-// What a table may hold before a search.
-fn spare_row<C: Copy>(charge: C) -> Row<C> {
-    Row {
-        setting: [7; 64],
-        charge,
-        closed: false,
-        origin: 9,
-        action: 9,
-    }
-}
-
-fn spare_entry<C: Copy>(charge: C) -> Entry<C> {
-    let waiting = Waiting { charge, row: 9 };
-    Entry { waiting, place: 9 }
-}
-
-fn blank() -> Action {
-    Action {
-        tenths: 0,
-        presses: 0,
-        conditions: task::Atoms::none(),
-        effects: task::Atoms::none(),
-    }
-}
-
-fn path_of(actions: [u16; 8], count: usize, last: u8) -> Walked {
-    Walked {
-        actions,
-        count,
-        last,
-    }
-}
-
-#[test]
-fn keypad(rt: HostRuntime) -> Result<(), Fail> {
-    let mut table = [blank(); 5];
-    let Ok(task) = read(&KEYPAD, &mut table) else {
-        return Err(Fail::new("the book is lawful"));
-    };
-    let mut start = [0; 64];
-    start[1] = 1;
-    let found = path_of([0, 1, 2, 3, 4, 0, 0, 0], 5, 32);
-    assert_eq!(rt;
-        searched(&Time, &Atoms, task, &table, start, 23, 8, 8),
-        (Told::Found(23, 7), found)
-    );
-    assert_eq!(rt;
-        searched(&Time, &Actions, task, &table, start, 23, 8, 8),
-        (Told::Found(23, 7), found)
-    );
-    assert_eq!(rt;
-        searched(&Time, &All, task, &table, start, 23, 64, 64),
-        (
-            Told::Found(23, 14),
-            path_of([0, 1, 4, 2, 3, 0, 0, 0], 5, 32),
-        )
-    );
-    let nothing = path_of([0; 8], 0, 31);
-    assert_eq!(rt;
-        searched(&Time, &Atoms, task, &table, start, 22, 7, 7),
-        (Told::NoPlan(7), nothing)
-    );
-    assert_eq!(rt;
-        searched(&Time, &Atoms, task, &table, start, 23, 7, 7),
-        (Told::Full(7), nothing)
-    );
-    assert_eq!(rt;
-        searched(&Time, &Atoms, task, &table, start, 23, 8, 5),
-        (Told::Working(5), path_of([0; 8], 0, 0))
-    );
-    Ok(())
-}
-
-#[test]
-fn own_tariff_and_rule(rt: HostRuntime) -> Result<(), Fail> {
-    let mut table = [blank(); 5];
-    let Ok(task) = read(&KEYPAD, &mut table) else {
-        return Err(Fail::new("the book is lawful"));
-    };
-    let mut start = [0; 64];
-    start[1] = 1;
-    // every plan has the five actions, so 2 for a tenth and 3 for a press come to 2 * 23 + 3 * 4
-    let rates = Rates { tenth: 2, press: 3 };
-    let (told, walk) = searched(&rates, &Noisy, task, &table, start, 58, 64, 64);
-    assert!(rt;
-        match told {
-            Told::Found(58, _) => walk.count == 5,
-            _ => false,
-        }
-    );
-    let (told, _) = searched(&rates, &Noisy, task, &table, start, 57, 64, 64);
-    assert!(rt;
-        match told {
-            Told::NoPlan(_) => true,
-            _ => false,
-        }
-    );
-    Ok(())
-}
-
-#[test]
-fn fork(rt: HostRuntime) -> Result<(), Fail> {
-    let mut table = [blank(); 3];
-    let Ok(task) = read(&FORK, &mut table) else {
-        return Err(Fail::new("the book is lawful"));
-    };
-    let start = [0; 64];
-    assert_eq!(rt;
-        searched(&Time, &Atoms, task, &table, start, 10, 3, 3),
-        (Told::Found(5, 2), path_of([1, 2, 0, 0, 0, 0, 0, 0], 2, 32))
-    );
-    let bound = Pressed {
-        presses: 9,
-        tenths: 0,
-    };
-    let zero = Pressed {
-        presses: 0,
-        tenths: 0,
-    };
-    let mut rows = [spare_row(zero); 3];
-    let mut queue = [spare_entry(zero); 3];
-    let rest = Rest::new(task);
-    let (rest, told, walk) = search_over(
-        &Presses, &Atoms, rest, &table, start, bound, &mut rows, &mut queue, 3,
-    );
-    let _ = rest.into_task();
-    assert!(rt;
-        match told {
-            Told::Found(charge, 2) => charge.presses == 1 && charge.tenths == 10,
-            _ => false,
-        }
-    );
-    assert_eq!(rt; walk, path_of([0; 8], 1, 32));
-    let mut goal = [0; 64];
-    goal[0] = 2;
-    assert_eq!(rt;
-        searched(&Time, &Atoms, task, &table, goal, 0, 1, 0),
-        (Told::Found(0, 0), path_of([0; 8], 0, 32))
-    );
-    let none = path_of([0; 8], 0, 0);
-    assert_eq!(rt;
-        searched(&Time, &Atoms, task, &table, start, 10, 0, 3),
-        (Told::Refused(20, 2), none)
-    );
-    let mut outside = [0; 64];
-    outside[0] = 3;
-    assert_eq!(rt;
-        searched(&Time, &Atoms, task, &table, outside, 10, 3, 3),
-        (Told::Refused(30, 0), none)
-    );
-    assert_eq!(rt;
-        searched(&Time, &Atoms, task, &table[0..2], start, 10, 3, 3),
-        (Told::Refused(21, 1), none)
-    );
-    Ok(())
-}
-
-// Several searches by one planner over the same tables, refused calls among them.
-#[test]
-fn one_list(rt: HostRuntime) -> Result<(), Fail> {
-    let mut table = [blank(); 5];
-    let Ok(task) = read(&KEYPAD, &mut table) else {
-        return Err(Fail::new("the book is lawful"));
-    };
-    let mut start = [0; 64];
-    start[1] = 1;
-    let mut outside = [0; 64];
-    outside[5] = 1;
-    let mut all_rows = [spare_row(9); 8];
-    let mut all_queue = [spare_entry(9); 8];
-    let rows = &mut all_rows[..];
-    let queue = &mut all_queue[..];
-    let cases = [
-        (start, 23, 8, Told::Found(23, 7)),
-        (outside, 23, 8, Told::Refused(30, 5)),
-        (start, 22, 8, Told::NoPlan(7)),
-        (start, 23, 3, Told::Working(3)),
-        (start, 0, 1, Told::NoPlan(1)),
-        (start, 23, 8, Told::Found(23, 7)),
-    ];
-    let mut rest = Rest::new(task);
-    let mut wrong = 0u8;
-    for (from, bound, steps, expected) in &cases {
-        let (next, told, _) = search_over(
-            &Time,
-            &Atoms,
-            rest,
-            &table,
-            *from,
-            *bound,
-            &mut *rows,
-            &mut *queue,
-            *steps,
-        );
-        if told != *expected {
-            wrong = wrong.saturating_add(1);
-        }
-        rest = next;
-    }
-    let _ = rest.into_task();
-    assert_eq!(rt; wrong, 0);
-    Ok(())
-}
-
-// How many places of each table are lent to a call.
+// How many places of each table are made, or lent to a call.
 #[derive(Clone, Copy)]
 struct Lent {
     actions: usize,
@@ -401,75 +78,190 @@ const ENOUGH: Lent = Lent {
     work: 4096,
 };
 
-// The same with one place too few in a table.
-fn short_of(table: usize) -> Lent {
-    let mut lent = ENOUGH;
-    match table {
-        1 => lent.actions = 4,
-        2 => lent.rows = 7,
-        3 => lent.queue = 7,
-        4 => lent.plan = 7,
-        5 => lent.marks = 4,
-        6 => lent.work = 4095,
-        _ => {}
+// More than either bench needs.
+const AMPLE: Lent = Lent {
+    actions: 8,
+    rows: 64,
+    queue: 64,
+    plan: 64,
+    marks: 8,
+    work: 4096,
+};
+
+// The tables that searches are lent, call by call.
+#[derive(Drop)]
+struct OwnTables<C> {
+    rows: Vec<Row<C>>,
+    queue: Vec<Entry<C>>,
+    plan: Vec<u16>,
+    marks: Vec<u8>,
+    work: Vec<u8>,
+}
+
+impl<C: Copy> OwnTables<C> {
+    // Tables of these lengths, with what they may hold before a search.
+    fn new(alloc: Global, charge: C, lengths: Lent) -> Result<Self, AllocError> {
+        let row = Row {
+            setting: [7; 64],
+            charge,
+            closed: false,
+            origin: 9,
+            action: 9,
+        };
+        let waiting = Waiting { charge, row: 9 };
+        let entry = Entry { waiting, place: 9 };
+        Ok(OwnTables {
+            rows: vec![in alloc; row; lengths.rows]?,
+            queue: vec![in alloc; entry; lengths.queue]?,
+            plan: vec![in alloc; 9; lengths.plan]?,
+            marks: vec![in alloc; 9; lengths.marks]?,
+            work: vec![in alloc; 9; lengths.work]?,
+        })
     }
-    lent
+
+    // The first places of each table.
+    fn lend(&mut self, lent: Lent) -> Tables<C> {
+        let OwnTables {
+            rows,
+            queue,
+            plan,
+            marks,
+            work,
+        } = self;
+        Tables {
+            rows: first_places(rows, lent.rows),
+            queue: first_places(queue, lent.queue),
+            plan: first_places(plan, lent.plan),
+            marks: first_places(marks, lent.marks),
+            work: first_places(work, lent.work),
+        }
+    }
 }
 
-// A Begin from Keypad's start over the first places of these tables.
-fn begin_cut(
-    rest: Rest,
-    rows: &mut [Row<u64>],
-    queue: &mut [Entry<u64>],
-    plan: &mut [u16],
-    marks: &mut [u8],
-    work: &mut [u8],
-    lent: Lent,
-) -> Result<Search<u64>, Refused<Rest>> {
-    let row_end = lent.rows.min(rows.len());
-    let queue_end = lent.queue.min(queue.len());
-    let plan_end = lent.plan.min(plan.len());
-    let mark_end = lent.marks.min(marks.len());
-    let work_end = lent.work.min(work.len());
-    let tables = Tables {
-        rows: &mut rows[0..row_end],
-        queue: &mut queue[0..queue_end],
-        plan: &mut plan[0..plan_end],
-        marks: &mut marks[0..mark_end],
-        work: &mut work[0..work_end],
-    };
-    begin(&Time, rest, tables, keypad_start(), 23)
+// So many places of a table, or all that it has.
+fn first_places<T>(table: &mut [T], count: usize) -> &mut [T] {
+    let end = count.min(table.len());
+    &mut table[0..end]
 }
 
-// An Advance by eight steps over the first places of these tables.
-fn advance_cut(
-    search: Search<u64>,
+// Takes the plan's actions one by one, and gives the search up.
+fn take_all<T: Tariff>(
+    rt: &impl Abort,
+    tariff: &T,
     actions: &[Action],
-    rows: &mut [Row<u64>],
-    queue: &mut [Entry<u64>],
-    plan: &mut [u16],
-    marks: &mut [u8],
-    work: &mut [u8],
-    lent: Lent,
-) -> Result<Advanced<u64>, Refused<Search<u64>>> {
-    let action_end = lent.actions.min(actions.len());
-    let row_end = lent.rows.min(rows.len());
-    let queue_end = lent.queue.min(queue.len());
-    let plan_end = lent.plan.min(plan.len());
-    let mark_end = lent.marks.min(marks.len());
-    let work_end = lent.work.min(work.len());
-    let tables = Tables {
-        rows: &mut rows[0..row_end],
-        queue: &mut queue[0..queue_end],
-        plan: &mut plan[0..plan_end],
-        marks: &mut marks[0..mark_end],
-        work: &mut work[0..work_end],
+    plan: &[u16],
+    ended: Ended<T::Charge>,
+    walked: &mut Walked,
+) -> Rest {
+    let mut phase = ended;
+    // the list has more places than a plan here has actions
+    for _ in plan {
+        match take(tariff, actions, plan, phase) {
+            Ok(
+                Taken {
+                    ended,
+                    action,
+                    remaining: _,
+                },
+            ) => {
+                phase = ended;
+                walked.actions.push(action).expect(rt, "memory");
+            }
+            Err(Refused { phase, refusal }) => {
+                walked.last = Some(refusal.number());
+                return phase.abandon();
+            }
+        }
+    }
+    phase.abandon()
+}
+
+// What an Advance came to; a search that ended goes to the closure, and one that did not is given up.
+fn settle<C: Copy, F: FnOnce(Ended<C>) -> Rest>(
+    advanced: Advanced<C>,
+    give_up: F,
+) -> (Rest, Told<C>)
+    requires { F.IsAlwaysCallable give_up }
+{
+    match advanced {
+        Advanced::Found(ended, charge, count) => (give_up(ended), Told::Found(charge, count)),
+        Advanced::NoPlan(ended, count) => (give_up(ended), Told::NoPlan(count)),
+        Advanced::Full(ended, count) => (give_up(ended), Told::Full(count)),
+        Advanced::Working(search, count) => (search.abandon(), Told::Working(count)),
+    }
+}
+
+// One search over these tables; the planner is at rest again afterwards. Each parameter is another in some test.
+fn search_over<T: Tariff, R: Rule>(
+    rt: &(impl Abort + AllocGlobal),
+    tariff: &T,
+    rule: &R,
+    rest: Rest,
+    actions: &[Action],
+    asked: Asked<T::Charge>,
+    tables: &mut OwnTables<T::Charge>,
+) -> (Rest, Told<T::Charge>, Walked) {
+    let mut walked = Walked {
+        actions: Vec::new(rt.alloc()),
+        last: None,
     };
-    advance(&Time, &Atoms, &actions[0..action_end], search, tables, 8)
+    tables.plan.fill(9);
+    tables.marks.fill(9);
+    tables.work.fill(9);
+    let search = match begin(tariff, rest, tables.lend(AMPLE), asked.start, asked.bound) {
+        Ok(search) => search,
+        Err(Refused { phase, refusal }) => return (phase, refused_for(refusal), walked),
+    };
+    let (rest, told) = match advance(
+        tariff,
+        rule,
+        actions,
+        search,
+        tables.lend(AMPLE),
+        asked.steps,
+    ) {
+        Ok(advanced) => settle(advanced, |ended| {
+            take_all(rt, tariff, actions, &tables.plan, ended, &mut walked)
+        }),
+        Err(Refused { phase, refusal }) => (phase.abandon(), refused_for(refusal)),
+    };
+    (rest, told, walked)
+}
+
+// A search whose charges are numbers, with so many rows.
+fn searched<T: Tariff<Charge = u64>, R: Rule>(
+    rt: &(impl Abort + AllocGlobal),
+    tariff: &T,
+    rule: &R,
+    bench: Bench,
+    asked: Asked<u64>,
+    rows: usize,
+) -> Result<(Told<u64>, Walked), AllocError> {
+    let mut tables = OwnTables::new(rt.alloc(), 9, Lent { rows, ..AMPLE })?;
+    let rest = Rest::new(bench.task);
+    let (rest, told, walked) = search_over(
+        rt,
+        tariff,
+        rule,
+        rest,
+        bench.actions,
+        asked,
+        &mut tables,
+    );
+    let _ = rest.into_task();
+    Ok((told, walked))
+}
+
+// What was taken, and the number that ended it.
+fn path_of(rt: &impl AllocGlobal, actions: &[u16], last: Option<u8>) -> Result<Walked, AllocError> {
+    Ok(Walked {
+        actions: actions.to_vec(rt.alloc())?,
+        last,
+    })
 }
 
 // What a call was refused for.
-fn refused_for(refusal: Refusal) -> Told<u64> {
+fn refused_for<C>(refusal: Refusal) -> Told<C> {
     Told::Refused(refusal.number(), refusal.place)
 }
 
@@ -480,87 +272,296 @@ fn keypad_start() -> Setting {
     start
 }
 
-// What an Advance came to, refused or not; the planner is let go.
-fn told_of(table: &[Action], res: Result<Advanced<u64>, Refused<Search<u64>>>) -> Told<u64> {
-    match res {
-        Ok(advanced) => {
-            let (rest, told, _) = settle(&Time, table, &[], advanced);
-            let _ = rest.into_task();
-            told
-        }
-        Err(refused) => {
-            let Refused { phase, refusal } = refused;
-            let _ = phase.abandon().into_task();
-            refused_for(refusal)
-        }
+fn pressed(presses: u32, tenths: u64) -> Pressed {
+    Pressed { presses, tenths }
+}
+
+#[test]
+fn keypad(rt: HostRuntime) -> Result<(), Fail> {
+    let mut table = [Action::default(); 5];
+    let task = read(&KEYPAD, &mut table)?;
+    let bench = Bench {
+        task,
+        actions: &table,
+    };
+    let asked = Asked {
+        start: keypad_start(),
+        bound: 23,
+        steps: 8,
+    };
+    assert_eq!(rt;
+        searched(&rt, &Time, &Atoms, bench, asked, 8)?,
+        (
+            Told::Found(23, 7),
+            path_of(&rt, &[0, 1, 2, 3, 4], Some(32))?
+        )
+    );
+    assert_eq!(rt;
+        searched(&rt, &Time, &Actions, bench, asked, 8)?,
+        (
+            Told::Found(23, 7),
+            path_of(&rt, &[0, 1, 2, 3, 4], Some(32))?
+        )
+    );
+    assert_eq!(rt;
+        searched(&rt, &Time, &All, bench, Asked { steps: 64, ..asked }, 64)?,
+        (
+            Told::Found(23, 14),
+            path_of(&rt, &[0, 1, 4, 2, 3], Some(32))?
+        )
+    );
+    let seven = Asked { steps: 7, ..asked };
+    assert_eq!(rt;
+        searched(&rt, &Time, &Atoms, bench, Asked { bound: 22, ..seven }, 7)?,
+        (Told::NoPlan(7), path_of(&rt, &[], Some(31))?)
+    );
+    assert_eq!(rt;
+        searched(&rt, &Time, &Atoms, bench, seven, 7)?,
+        (Told::Full(7), path_of(&rt, &[], Some(31))?)
+    );
+    assert_eq!(rt;
+        searched(&rt, &Time, &Atoms, bench, Asked { steps: 5, ..asked }, 8)?,
+        (Told::Working(5), path_of(&rt, &[], None)?)
+    );
+    Ok(())
+}
+
+#[test]
+fn own_tariff_and_rule(rt: HostRuntime) -> Result<(), Fail> {
+    let mut table = [Action::default(); 5];
+    let task = read(&KEYPAD, &mut table)?;
+    let bench = Bench {
+        task,
+        actions: &table,
+    };
+    // every plan has the five actions, so 2 for a tenth and 3 for a press come to 2 * 23 + 3 * 4
+    let rates = Rates { tenth: 2, press: 3 };
+    let asked = Asked {
+        start: keypad_start(),
+        bound: 58,
+        steps: 64,
+    };
+    let (told, walked) = searched(&rt, &rates, &Noisy, bench, asked, 64)?;
+    assert!(rt; matches!(told, Told::Found(58, _)));
+    assert_eq!(rt; walked.actions.len(), 5);
+    let (told, _) = searched(&rt, &rates, &Noisy, bench, Asked { bound: 57, ..asked }, 64)?;
+    assert!(rt; matches!(told, Told::NoPlan(_)));
+    Ok(())
+}
+
+#[test]
+fn fork(rt: HostRuntime) -> Result<(), Fail> {
+    let mut table = [Action::default(); 3];
+    let task = read(&FORK, &mut table)?;
+    let bench = Bench {
+        task,
+        actions: &table,
+    };
+    let asked = Asked {
+        start: [0; 64],
+        bound: 10,
+        steps: 3,
+    };
+    assert_eq!(rt;
+        searched(&rt, &Time, &Atoms, bench, asked, 3)?,
+        (Told::Found(5, 2), path_of(&rt, &[1, 2], Some(32))?)
+    );
+    let by_presses = Asked {
+        start: [0; 64],
+        bound: pressed(9, 0),
+        steps: 3,
+    };
+    let three = Lent {
+        rows: 3,
+        queue: 3,
+        ..AMPLE
+    };
+    let mut tables = OwnTables::new(rt.alloc(), pressed(0, 0), three)?;
+    let rest = Rest::new(task);
+    let (rest, told, walked) = search_over(
+        &rt,
+        &Presses,
+        &Atoms,
+        rest,
+        &table,
+        by_presses,
+        &mut tables,
+    );
+    let _ = rest.into_task();
+    assert_eq!(rt; told, Told::Found(pressed(1, 10), 2));
+    assert_eq!(rt; walked, path_of(&rt, &[0], Some(32))?);
+    let mut goal = [0; 64];
+    goal[0] = 2;
+    let at_goal = Asked {
+        start: goal,
+        bound: 0,
+        steps: 0,
+    };
+    assert_eq!(rt;
+        searched(&rt, &Time, &Atoms, bench, at_goal, 1)?,
+        (Told::Found(0, 0), path_of(&rt, &[], Some(32))?)
+    );
+    assert_eq!(rt;
+        searched(&rt, &Time, &Atoms, bench, asked, 0)?,
+        (Told::Refused(20, 2), path_of(&rt, &[], None)?)
+    );
+    let mut outside = [0; 64];
+    outside[0] = 3;
+    let from_outside = Asked {
+        start: outside,
+        ..asked
+    };
+    assert_eq!(rt;
+        searched(&rt, &Time, &Atoms, bench, from_outside, 3)?,
+        (Told::Refused(30, 0), path_of(&rt, &[], None)?)
+    );
+    let short = Bench {
+        task,
+        actions: &table[0..2],
+    };
+    assert_eq!(rt;
+        searched(&rt, &Time, &Atoms, short, asked, 3)?,
+        (Told::Refused(21, 1), path_of(&rt, &[], None)?)
+    );
+    Ok(())
+}
+
+// Several searches by one planner over the same tables, refused calls among them.
+#[test]
+fn one_list(rt: HostRuntime) -> Result<(), Fail> {
+    let mut table = [Action::default(); 5];
+    let task = read(&KEYPAD, &mut table)?;
+    let eight = Lent {
+        rows: 8,
+        queue: 8,
+        ..AMPLE
+    };
+    let mut tables = OwnTables::new(rt.alloc(), 9, eight)?;
+    let asked = Asked {
+        start: keypad_start(),
+        bound: 23,
+        steps: 8,
+    };
+    let mut outside = asked;
+    outside.start = [0; 64];
+    outside.start[5] = 1;
+    let cases = [
+        (asked, Told::Found(23, 7)),
+        (outside, Told::Refused(30, 5)),
+        (Asked { bound: 22, ..asked }, Told::NoPlan(7)),
+        (Asked { steps: 3, ..asked }, Told::Working(3)),
+        (
+            Asked {
+                bound: 0,
+                steps: 1,
+                ..asked
+            },
+            Told::NoPlan(1),
+        ),
+        (asked, Told::Found(23, 7)),
+    ];
+    let mut rest = Rest::new(task);
+    for (asked, expected) in &cases {
+        let (next, told, _) = search_over(&rt, &Time, &Atoms, rest, &table, *asked, &mut tables);
+        rest = next;
+        assert_eq!(rt; told, *expected);
+    }
+    let _ = rest.into_task();
+    Ok(())
+}
+
+// A table that a call can be short of, under its place in a refusal.
+#[derive(Clone, Copy)]
+enum Table {
+    Actions = 1,
+    Rows = 2,
+    Queue = 3,
+    Plan = 4,
+    Marks = 5,
+    Work = 6,
+}
+
+// Just enough, but for one place too few in a table.
+fn short_of(table: Table) -> Lent {
+    match table {
+        Table::Actions => Lent {
+            actions: 4,
+            ..ENOUGH
+        },
+        Table::Rows => Lent { rows: 7, ..ENOUGH },
+        Table::Queue => Lent { queue: 7, ..ENOUGH },
+        Table::Plan => Lent { plan: 7, ..ENOUGH },
+        Table::Marks => Lent { marks: 4, ..ENOUGH },
+        Table::Work => Lent {
+            work: 4095,
+            ..ENOUGH
+        },
     }
 }
 
-// Begins over tables of these lengths and, where that is refused, over enough of them; then advances.
-fn begin_over(task: Task, table: &[Action], lent: Lent) -> (Told<u64>, Told<u64>) {
-    let mut rows = [spare_row(9); 8];
-    let mut queue = [spare_entry(9); 8];
-    let mut plan = [9; 8];
-    let mut marks = [9; 5];
-    let mut work = [9; 4096];
-    let rest = Rest::new(task);
-    let (rest, first) = match begin_cut(
-        rest, &mut rows, &mut queue, &mut plan, &mut marks, &mut work, lent,
-    ) {
-        Ok(search) => (search.abandon(), Told::Working(0)),
-        Err(refused) => {
-            let Refused { phase, refusal } = refused;
-            (phase, refused_for(refusal))
-        }
+impl OwnTables<u64> {
+    // A Begin from Keypad's start over the first places of the tables.
+    fn begin(&mut self, rest: Rest, lent: Lent) -> Result<Search<u64>, Refused<Rest>> {
+        begin(&Time, rest, self.lend(lent), keypad_start(), 23)
+    }
+
+    // An Advance by eight steps over the first places of the tables.
+    fn advance(
+        &mut self,
+        search: Search<u64>,
+        actions: &[Action],
+        lent: Lent,
+    ) -> Result<Advanced<u64>, Refused<Search<u64>>> {
+        let actions = &actions[0..lent.actions.min(actions.len())];
+        advance(&Time, &Atoms, actions, search, self.lend(lent), 8)
+    }
+}
+
+// What an Advance came to, refused or not; the planner is let go.
+fn told_of(answer: Result<Advanced<u64>, Refused<Search<u64>>>) -> Told<u64> {
+    let (rest, told) = match answer {
+        Ok(advanced) => settle(advanced, |ended| ended.abandon()),
+        Err(Refused { phase, refusal }) => (phase.abandon(), refused_for(refusal)),
     };
-    match begin_cut(
-        rest, &mut rows, &mut queue, &mut plan, &mut marks, &mut work, ENOUGH,
-    ) {
+    let _ = rest.into_task();
+    told
+}
+
+// Begins over tables cut to these lengths and, where that is refused, over enough of them; then advances.
+fn begin_over(bench: Bench, tables: &mut OwnTables<u64>, lent: Lent) -> (Told<u64>, Told<u64>) {
+    let (rest, first) = match tables.begin(Rest::new(bench.task), lent) {
+        Ok(search) => (search.abandon(), Told::Working(0)),
+        Err(Refused { phase, refusal }) => (phase, refused_for(refusal)),
+    };
+    match tables.begin(rest, ENOUGH) {
         Ok(search) => {
-            let result = advance_cut(
-                search, table, &mut rows, &mut queue, &mut plan, &mut marks, &mut work, ENOUGH,
-            );
-            (first, told_of(table, result))
+            let result = tables.advance(search, bench.actions, ENOUGH);
+            (first, told_of(result))
         }
-        Err(refused) => {
-            let Refused { phase, refusal } = refused;
+        Err(Refused { phase, refusal }) => {
             let _ = phase.into_task();
             (first, refused_for(refusal))
         }
     }
 }
 
-// Advances over tables of these lengths and, where that is refused, over enough of them.
-fn advance_over(task: Task, table: &[Action], lent: Lent) -> (Told<u64>, Told<u64>) {
-    let mut rows = [spare_row(9); 8];
-    let mut queue = [spare_entry(9); 8];
-    let mut plan = [9; 8];
-    let mut marks = [9; 5];
-    let mut work = [9; 4096];
-    let rest = Rest::new(task);
-    let search = match begin_cut(
-        rest, &mut rows, &mut queue, &mut plan, &mut marks, &mut work, ENOUGH,
-    ) {
+// Advances over tables cut to these lengths and, where that is refused, over enough of them.
+fn advance_over(bench: Bench, tables: &mut OwnTables<u64>, lent: Lent) -> (Told<u64>, Told<u64>) {
+    let search = match tables.begin(Rest::new(bench.task), ENOUGH) {
         Ok(search) => search,
-        Err(refused) => {
-            let Refused { phase, refusal } = refused;
+        Err(Refused { phase, refusal }) => {
             let _ = phase.into_task();
             return (refused_for(refusal), Told::Working(0));
         }
     };
-    match advance_cut(
-        search, table, &mut rows, &mut queue, &mut plan, &mut marks, &mut work, lent,
-    ) {
+    match tables.advance(search, bench.actions, lent) {
         Ok(advanced) => {
-            let told = told_of(table, Ok(advanced));
+            let told = told_of(Ok(advanced));
             (told, told)
         }
-        Err(refused) => {
-            let Refused { phase, refusal } = refused;
-            let result = advance_cut(
-                phase, table, &mut rows, &mut queue, &mut plan, &mut marks, &mut work, ENOUGH,
-            );
-            (refused_for(refusal), told_of(table, result))
+        Err(Refused { phase, refusal }) => {
+            let result = tables.advance(phase, bench.actions, ENOUGH);
+            (refused_for(refusal), told_of(result))
         }
     }
 }
@@ -572,99 +573,96 @@ fn take_over(
     actions: &[Action],
     plan: &[u16],
     lent: Lent,
-) -> (Told<u64>, u16, u64) {
+) -> (Told<u64>, Option<(u16, u64)>) {
     let action_end = lent.actions.min(actions.len());
     let plan_end = lent.plan.min(plan.len());
     let (ended, told) = match take(&Time, &actions[0..action_end], &plan[0..plan_end], ended) {
-        Ok(taken) => {
-            let Taken {
+        Ok(
+            Taken {
                 ended,
                 action: _,
                 remaining: _,
-            } = taken;
-            (ended, Told::Working(0))
-        }
-        Err(refused) => {
-            let Refused { phase, refusal } = refused;
-            (phase, refused_for(refusal))
-        }
+            },
+        ) => (ended, Told::Working(0)),
+        Err(Refused { phase, refusal }) => (phase, refused_for(refusal)),
     };
     match take(&Time, actions, plan, ended) {
-        Ok(taken) => {
-            let Taken {
+        Ok(
+            Taken {
                 ended,
                 action,
                 remaining,
-            } = taken;
+            },
+        ) => {
             let _ = ended.abandon().into_task();
-            (told, action, remaining)
+            (told, Some((action, remaining)))
         }
-        Err(refused) => {
-            let Refused { phase, refusal } = refused;
+        Err(Refused { phase, refusal }) => {
             let _ = phase.abandon().into_task();
-            (refused_for(refusal), 9, 9)
+            (refused_for(refusal), None)
         }
     }
 }
 
 // Searches from Keypad's start, and takes an action so.
-fn take_found(task: Task, table: &[Action], lent: Lent) -> (Told<u64>, u16, u64) {
-    let mut rows = [spare_row(9); 8];
-    let mut queue = [spare_entry(9); 8];
-    let mut plan = [9; 8];
-    let mut marks = [9; 5];
-    let mut work = [9; 4096];
-    let rest = Rest::new(task);
-    let search = match begin_cut(
-        rest, &mut rows, &mut queue, &mut plan, &mut marks, &mut work, ENOUGH,
-    ) {
+fn take_found(
+    bench: Bench,
+    tables: &mut OwnTables<u64>,
+    lent: Lent,
+) -> (Told<u64>, Option<(u16, u64)>) {
+    let search = match tables.begin(Rest::new(bench.task), ENOUGH) {
         Ok(search) => search,
-        Err(refused) => {
-            let Refused { phase, refusal } = refused;
+        Err(Refused { phase, refusal }) => {
             let _ = phase.into_task();
-            return (refused_for(refusal), 9, 9);
+            return (refused_for(refusal), None);
         }
     };
-    match advance_cut(
-        search, table, &mut rows, &mut queue, &mut plan, &mut marks, &mut work, ENOUGH,
-    ) {
-        Ok(advanced) => match advanced {
-            Advanced::Found(ended, _, _) => take_over(ended, table, &plan, lent),
-            other => (told_of(table, Ok(other)), 9, 9),
-        },
-        Err(refused) => (told_of(table, Err(refused)), 9, 9),
+    match tables.advance(search, bench.actions, ENOUGH) {
+        Ok(Advanced::Found(ended, _, _)) => take_over(ended, bench.actions, &tables.plan, lent),
+        other => (told_of(other), None),
     }
 }
 
 // Each call that is refused for a short table leaves all as it was: the next one comes to the same end.
 #[test]
 fn short_tables(rt: HostRuntime) -> Result<(), Fail> {
-    let mut table = [blank(); 5];
-    let Ok(task) = read(&KEYPAD, &mut table) else {
-        return Err(Fail::new("the book is lawful"));
+    let mut table = [Action::default(); 5];
+    let task = read(&KEYPAD, &mut table)?;
+    let bench = Bench {
+        task,
+        actions: &table,
     };
     let found = Told::Found(23, 7);
-    for number in 3..7 {
-        let expected = (Told::Refused(21, number), found);
-        assert_eq!(rt; begin_over(task, &table, short_of(number)), expected);
+    for table in [Table::Queue, Table::Plan, Table::Marks, Table::Work] {
+        let mut tables = OwnTables::new(rt.alloc(), 9, ENOUGH)?;
+        let expected = (Told::Refused(21, table as usize), found);
+        assert_eq!(rt; begin_over(bench, &mut tables, short_of(table)), expected);
     }
-    for number in 1..7 {
-        let expected = (Told::Refused(21, number), found);
-        assert_eq!(rt; advance_over(task, &table, short_of(number)), expected);
+    for table in [
+        Table::Actions,
+        Table::Rows,
+        Table::Queue,
+        Table::Plan,
+        Table::Marks,
+        Table::Work,
+    ] {
+        let mut tables = OwnTables::new(rt.alloc(), 9, ENOUGH)?;
+        let expected = (Told::Refused(21, table as usize), found);
+        assert_eq!(rt; advance_over(bench, &mut tables, short_of(table)), expected);
     }
     // Keypad's plan begins with action 0 at 2 tenths of its 23
+    for table in [Table::Actions, Table::Plan] {
+        let mut tables = OwnTables::new(rt.alloc(), 9, ENOUGH)?;
+        let expected = (Told::Refused(21, table as usize), Some((0, 21)));
+        assert_eq!(rt; take_found(bench, &mut tables, short_of(table)), expected);
+    }
+    let both = Lent {
+        queue: 0,
+        ..short_of(Table::Marks)
+    };
+    let mut tables = OwnTables::new(rt.alloc(), 9, ENOUGH)?;
     assert_eq!(rt;
-        take_found(task, &table, short_of(1)),
-        (Told::Refused(21, 1), 0, 21)
-    );
-    assert_eq!(rt;
-        take_found(task, &table, short_of(4)),
-        (Told::Refused(21, 4), 0, 21)
-    );
-    let mut both = short_of(5);
-    both.queue = 0;
-    assert_eq!(rt;
-        advance_over(task, &table, both),
+        advance_over(bench, &mut tables, both),
         (Told::Refused(21, 3), found)
     );
     Ok(())

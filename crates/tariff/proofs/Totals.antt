@@ -1,13 +1,13 @@
 -- Laws of the charge of a row of action numbers.
-use Rattle.std.proofs.Common.{◌≡◌, ℕ, zero, suc, ◌+◌, ◌<◌, ◌≤◌, Bool, true, false, cond, ltb, List, [], ◌∷◌, ◌++◌, map, length, get_or, take, drop, Some, None, Option, sym, refl, ap, ◌∙◌, subst, arith}
-use Rattle.std.specs.List.{AllByRecursion}
-use Rattle.std.proofs.lemmas.List.{map-append, take_more, take_all, take-append-drop, get_or-map, length-map, length-take}
-use Rattle.std.proofs.lemmas.Bool.{ltb-true, le-ltb, cond-true, cond-false}
+use Rattle.std.proofs.Common.{◌≡◌, ℕ, zero, suc, ◌+◌, ◌<◌, ◌≤◌, Bool, true, false, cond, ltb, List, [], ◌∷◌, ◌++◌, map, length, get_or, take, drop, Some, None, Option, Err, sym, refl, ap, ◌∙◌, subst, arith}
+use Rattle.std.specs.Prelude.{nat_le}
+use Rattle.std.specs.List.{AllByRecursion, position, position_from}
+use Rattle.std.proofs.lemmas.List.{map-append, take_more, take-append-drop, get_or-map, length-map, length-take}
+use Rattle.std.proofs.lemmas.Iterator.Adapters.{position_from-zero}
+use Rattle.std.proofs.lemmas.Bool.{ltb-true, ltb-false, le-leb, lt-leb, le-ltb, cond-true, cond-false}
 use Rattle.task.specs.declared.data.Action.{Action}
 use Rattle.task.specs.Benches.{Act, act_of, idle}
-use Rattle.tariff.specs.declared.charge.Added.{Added}
-use Rattle.tariff.specs.declared.charge.Added.TheVariants.{Within, Over}
-use Rattle.tariff.specs.declared.charge.Total.TheVariants.{TooMany}
+use Rattle.tariff.specs.declared.charge.TotalError.TheVariants.{TooMany}
 use Rattle.tariff.specs.Charges.{Charges, Billable}
 use Rattle.tariff.specs.Totals.{SumOfFew, Adding, sum, named, charge_of, and_act, against, stray, unless, totalled}
 
@@ -39,18 +39,30 @@ none_stray limit i (n ∷ more) none k h = at (ltb n limit) refl k h (none_stray
     at true e (suc k) h rec = rec (sym (cond-true _ _ _ e) ∙ none) k (omega arith)
     at false e k h rec = absurd (let is = sym (cond-false (ltb n limit) (stray limit (i + 1) more) (Some i) e) ∙ none in let z : ◌≡◌ {A = ℕ} 0 1 = cc in omega arith)
 
+-- the first stray number, by the library's word
+pub position_is_stray : (limit i : ℕ) (numbers : List ℕ) → position_from (λ k. nat_le limit k) i numbers ≡ stray limit i numbers
+position_is_stray limit i [] = refl
+position_is_stray limit i (k ∷ more) = at (ltb k limit) refl (position_is_stray limit (i + 1) more)
+  where
+    at : (t : Bool) → ltb k limit ≡ t → position_from (λ k. nat_le limit k) (i + 1) more ≡ stray limit (i + 1) more → position_from (λ k. nat_le limit k) i (k ∷ more) ≡ stray limit i (k ∷ more)
+    at true e rec = cond-false _ _ _ (lt-leb limit k (ltb-true k limit e)) ∙ rec ∙ sym (cond-true _ _ _ e)
+    at false e rec = cond-true _ _ _ (le-leb limit k (ltb-false k limit e)) ∙ sym (cond-false _ _ _ e)
+
+pub stray_is_position : (limit : ℕ) (numbers : List ℕ) → stray limit 0 numbers ≡ position (λ k. nat_le limit k) numbers
+stray_is_position limit numbers = sym (position_is_stray limit 0 numbers) ∙ sym (position_from-zero (λ k. nat_le limit k) numbers)
+
 module _ {C : Type 0} (le : C → C → Bool) (bound c : C) where
-  pub was_over : Over ≡ against le bound c → le c bound ≡ false
+  pub was_over : None ≡ against le bound c → le c bound ≡ false
   was_over e = at (le c bound) e
     where
-      at : (t : Bool) → Over ≡ cond t (Within c) Over → t ≡ false
+      at : (t : Bool) → None ≡ cond t (Some c) None → t ≡ false
       at true h = absurd (let z : ◌≡◌ {A = ℕ} 0 1 = cc in omega arith)
       at false h = refl
 
-  pub was_within : (d : C) → Within d ≡ against le bound c → (d ≡ c) × (le c bound ≡ true)
+  pub was_within : (d : C) → Some d ≡ against le bound c → (d ≡ c) × (le c bound ≡ true)
   was_within d e = at (le c bound) e
     where
-      at : (t : Bool) → Within d ≡ cond t (Within c) Over → (d ≡ c) × (t ≡ true)
+      at : (t : Bool) → Some d ≡ cond t (Some c) None → (d ≡ c) × (t ≡ true)
       at true h = (cc, refl)
       at false h = absurd (let z : ◌≡◌ {A = ℕ} 0 1 = cc in omega arith)
 
@@ -92,12 +104,12 @@ module _ {C : Type 0} (K : Charges C) where
   le_not a b bound false h f e = e
 
   -- what is over the bound stays over it
-  pub over_stays : (a b bound : C) → K.le a b ≡ true → K.le a bound ≡ false → Over ≡ against K.le bound b
+  pub over_stays : (a b bound : C) → K.le a b ≡ true → K.le a bound ≡ false → None ≡ against K.le bound b
   over_stays a b bound h f = sym (cond-false _ _ _ (le_not a b bound (K.le b bound) h f refl))
 
   -- against the greatest charge each such sum is held
-  pub held : (c : C) → SumOfFew K c → against K.le K.greatest c ≡ Within c
-  held c few = cond-true (K.le c K.greatest) (Within c) Over (K.enough c few)
+  pub held : (c : C) → SumOfFew K c → against K.le K.greatest c ≡ Some c
+  held c few = cond-true (K.le c K.greatest) (Some c) None (K.enough c few)
 
   -- the fold, one action on
   module _ (table : List Action) (numbers : List ℕ) (i : ℕ) (c : C) (action : Action) (within : i < length numbers) (known : get_or numbers i 0 < length table) (so_far : c ≡ charge_of K (map act_of table) (take i numbers)) (read : action ≡ get_or table (get_or numbers i 0) action) where
@@ -111,25 +123,19 @@ module _ {C : Type 0} (K : Charges C) where
         let short : length (take (i + 1) numbers) ≤ 65536 = simp length-take (omega arith) in
         subst (SumOfFew K) fold_more (charge_reached (map act_of table) (take (i + 1) numbers) (table_billable table) short)
 
-    pub fold_over : (bound : C) → length numbers ≤ 65536 → Adding K c (act_of action) bound Over → Over ≡ against K.le bound (charge_of K (map act_of table) numbers)
+    pub fold_over : (bound : C) → length numbers ≤ 65536 → Adding K c (act_of action) bound None → None ≡ against K.le bound (charge_of K (map act_of table) numbers)
     fold_over bound few answer =
         let over : K.le (and_act K c (act_of action)) bound ≡ false = was_over K.le bound (and_act K c (act_of action)) (answer (fold_reached few)) in
         over_stays (charge_of K (map act_of table) (take (i + 1) numbers)) (charge_of K (map act_of table) numbers) bound (charge_front (map act_of table) (i + 1) numbers) (ap (λ s. K.le s bound) fold_more ∙ over)
 
-    pub fold_within : (bound d : C) → length numbers ≤ 65536 → Adding K c (act_of action) bound (Within d) → (d ≡ charge_of K (map act_of table) (take (i + 1) numbers)) × (K.le d bound ≡ true)
+    pub fold_within : (bound d : C) → length numbers ≤ 65536 → Adding K c (act_of action) bound (Some d) → (d ≡ charge_of K (map act_of table) (take (i + 1) numbers)) × (K.le d bound ≡ true)
     fold_within bound d few answer =
         let put = was_within K.le bound (and_act K c (act_of action)) d (answer (fold_reached few)) in
         (put.0 ∙ sym fold_more, ap (λ s. K.le s bound) put.0 ∙ put.1)
 
-  -- the fold at its end
-  pub fold_all : (acts : List Act) (numbers : List ℕ) (bound : C) (i : ℕ) (c : C) → length numbers ≤ i → c ≡ charge_of K acts (take i numbers) → K.le c bound ≡ true → Within c ≡ against K.le bound (charge_of K acts numbers)
-  fold_all acts numbers bound i c all so_far within =
-      let whole : c ≡ charge_of K acts numbers = so_far ∙ ap (charge_of K acts) (take_all i numbers all) in
-      sym (cond-true (K.le c bound) (Within c) Over within) ∙ ap (against K.le bound) whole
-
   -- up to 65,536 numbers are answered by the sum, unless one of them is stray
-  pub totalled_few : (table : List Action) (numbers : List ℕ) (bound : C) → length numbers ≤ 65536 → {o : Option ℕ} → o ≡ stray (length table) 0 numbers → {answer : Added C} → answer ≡ against K.le bound (charge_of K (map act_of table) numbers) → unless o answer ≡ totalled K (map act_of table) numbers bound
+  pub totalled_few : (table : List Action) (numbers : List ℕ) (bound : C) → length numbers ≤ 65536 → {o : Option ℕ} → o ≡ stray (length table) 0 numbers → {answer : Option C} → answer ≡ against K.le bound (charge_of K (map act_of table) numbers) → unless o answer ≡ totalled K (map act_of table) numbers bound
   totalled_few table numbers bound few strays sums =
       let acts = map act_of table in
       let place = strays ∙ ap (λ n. stray n 0 numbers) (sym (length-map table act_of)) in
-      (λ i. unless (place i) (sums i)) ∙ sym (cond-false (ltb 65536 (length numbers)) TooMany (unless (stray (length acts) 0 numbers) (against K.le bound (charge_of K acts numbers))) (le-ltb 65536 (length numbers) few))
+      (λ i. unless (place i) (sums i)) ∙ sym (cond-false (ltb 65536 (length numbers)) (Err TooMany) (unless (stray (length acts) 0 numbers) (against K.le bound (charge_of K acts numbers))) (le-ltb 65536 (length numbers) few))

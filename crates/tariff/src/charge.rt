@@ -1,24 +1,16 @@
 // Charges, and the answers about them.
 
-// Key presses, and tenths of a second.
-#[derive(Clone, Copy, PartialEq, Eq, Debug)]
+// Key presses, and tenths of a second; fewer presses are less, and then fewer tenths.
+#[derive(Clone, Copy, PartialEq, Eq, PartialOrd, Ord, Default, Debug)]
 pub struct Pressed {
     pub presses: u32,
     pub tenths: u64,
 }
 
-// A sum, if it is at most a bound.
+// Why a row of action numbers has no sum: it is over the bound; the place of the first number that
+// names no action; or there are over 65,536 numbers.
 #[derive(Clone, Copy, PartialEq, Eq, Debug)]
-pub enum Added<C> {
-    Within(C),
-    Over,
-}
-
-// What a row of action numbers costs, if it is at most a bound; the place of the first number that
-// names no action; or that there are over 65,536 numbers.
-#[derive(Clone, Copy, PartialEq, Eq, Debug)]
-pub enum Total<C> {
-    Within(C),
+pub enum TotalError {
     Over,
     NoAction(usize),
     TooMany,

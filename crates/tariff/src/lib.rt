@@ -10,7 +10,7 @@ ghost use Rattle.tariff.specs.Presses.{pressing};
 
 mod charge;
 
-pub use charge::{Added, Pressed, Total};
+pub use charge::{Pressed, TotalError};
 use std::cmp::Ordering;
 use task::Action;
 
@@ -34,7 +34,12 @@ pub trait Tariff {
 
     // The charge and the action's charge together, if that is at most the bound. The answer is free where
     // they are no sum of up to 65,536 charges of actions.
-    fn add(&self, charge: Self::Charge, action: &Action, bound: Self::Charge) -> Added<Self::Charge>
+    fn add(
+        &self,
+        charge: Self::Charge,
+        action: &Action,
+        bound: Self::Charge,
+    ) -> Option<Self::Charge>
         ensures { Adding (charges self.now) charge (act_of action.now) bound result };
 }
 
@@ -59,11 +64,10 @@ impl Tariff for Time {
         a.cmp(&b)
     }
 
-    fn add(&self, charge: u64, action: &Action, bound: u64) -> Added<u64> {
-        match charge.checked_add(action.tenths as u64) {
-            Some(sum) if sum <= bound => Added::Within(sum),
-            _ => Added::Over,
-        }
+    fn add(&self, charge: u64, action: &Action, bound: u64) -> Option<u64> {
+        charge
+            .checked_add(action.tenths as u64)
+            .filter(|sum| *sum <= bound)
     }
 }
 
@@ -77,10 +81,7 @@ impl Tariff for Presses {
     ghost charges = { λ _. pressing };
 
     fn zero(&self) -> Pressed {
-        Pressed {
-            presses: 0,
-            tenths: 0,
-        }
+        Pressed::default()
     }
 
     fn most(&self) -> Pressed {
@@ -91,24 +92,15 @@ impl Tariff for Presses {
     }
 
     fn compare(&self, a: Pressed, b: Pressed) -> Ordering {
-        match a.presses.cmp(&b.presses) {
-            Ordering::Equal => a.tenths.cmp(&b.tenths),
-            unequal => unequal,
-        }
+        a.cmp(&b)
     }
 
-    fn add(&self, charge: Pressed, action: &Action, bound: Pressed) -> Added<Pressed> {
-        let Some(presses) = charge.presses.checked_add(action.presses as u32) else {
-            return Added::Over;
-        };
-        let Some(tenths) = charge.tenths.checked_add(action.tenths as u64) else {
-            return Added::Over;
-        };
+    #[tactic(auto, using(crate::specs::Presses::tenths_few))]
+    fn add(&self, charge: Pressed, action: &Action, bound: Pressed) -> Option<Pressed> {
+        let presses = charge.presses.checked_add(action.presses as u32)?;
+        let tenths = charge.tenths.checked_add(action.tenths as u64)?;
         let sum = Pressed { presses, tenths };
-        match self.compare(sum, bound) {
-            Ordering::Greater => Added::Over,
-            _ => Added::Within(sum),
-        }
+        (sum <= bound).then_some(sum)
     }
 }
 
@@ -116,54 +108,45 @@ impl Tariff for Presses {
 fn first_stray(numbers: &[u16], limit: usize) -> Option<usize>
     ensures { result ≡ stray limit 0 numbers.now }
 {
-    for (place, number) in numbers.iter().enumerate() {
-        if *number as usize >= limit {
-            return Some(place);
-        }
-    }
-    None
+    numbers.iter().position(|number| *number as usize >= limit)
 }
 
 // What the named actions cost together, if that is at most the bound.
+#[tactic(auto, using(crate::proofs::Totals::none_stray, crate::proofs::Totals::fold_over))]
 fn add_up<T: Tariff>(
     tariff: &T,
     actions: &[Action],
     numbers: &[u16],
     bound: T::Charge,
-) -> Added<T::Charge>
+) -> Option<T::Charge>
     requires few { length numbers.now ≤ 65536 }
     requires known { stray (length actions.now) 0 numbers.now ≡ None }
     ensures { result ≡ against (T.charges tariff.now).le bound (charge_of (T.charges tariff.now) (map act_of actions.now) numbers.now) }
 {
     let mut sum = tariff.zero();
     for number in numbers {
-        match tariff.add(sum, &actions[*number as usize], bound) {
-            Added::Within(more) => sum = more,
-            Added::Over => return Added::Over,
-        }
+        sum = tariff.add(sum, &actions[*number as usize], bound)?;
     }
-    Added::Within(sum)
+    Some(sum)
 }
 
 // What the actions of the table that the numbers name cost together, if that is at most the bound.
+#[tactic(auto, using(crate::proofs::Totals::totalled_few))]
 pub fn total<T: Tariff>(
     tariff: &T,
     actions: &[Action],
     numbers: &[u16],
     bound: T::Charge,
-) -> Total<T::Charge>
+) -> Result<T::Charge, TotalError>
     ensures { result ≡ totalled (T.charges tariff.now) (map act_of actions.now) numbers.now bound }
 {
     if numbers.len() > 65_536 {
-        return Total::TooMany;
+        return Err(TotalError::TooMany);
     }
     if let Some(place) = first_stray(numbers, actions.len()) {
-        return Total::NoAction(place);
+        return Err(TotalError::NoAction(place));
     }
-    match add_up(tariff, actions, numbers, bound) {
-        Added::Within(sum) => Total::Within(sum),
-        Added::Over => Total::Over,
-    }
+    add_up(tariff, actions, numbers, bound).ok_or(TotalError::Over)
 }
 
 #[cfg(test)]

@@ -29,11 +29,11 @@ fn time_charges(rt: HostRuntime) {
     }
     let warm = action(4, 0);
     for (charge, bound, answer) in &[
-        (0, 4, Added::Within(4)),
-        (0, 3, Added::Over),
-        (19, 23, Added::Within(23)),
-        (20, 23, Added::Over),
-        (23, 24, Added::Over),
+        (0, 4, Some(4)),
+        (0, 3, None),
+        (19, 23, Some(23)),
+        (20, 23, None),
+        (23, 24, None),
     ] {
         assert_eq!(rt; Time.add(*charge, &warm, *bound), *answer);
     }
@@ -54,11 +54,11 @@ fn press_charges(rt: HostRuntime) {
     }
     let run = action(10, 1);
     for (charge, bound, answer) in &[
-        (pressed(1, 5), pressed(2, 15), Added::Within(pressed(2, 15))),
-        (pressed(1, 5), pressed(2, 14), Added::Over),
-        (pressed(1, 5), pressed(3, 0), Added::Within(pressed(2, 15))),
-        (pressed(1, 5), pressed(1, 99), Added::Over),
-        (pressed(0, 0), pressed(9, 0), Added::Within(pressed(1, 10))),
+        (pressed(1, 5), pressed(2, 15), Some(pressed(2, 15))),
+        (pressed(1, 5), pressed(2, 14), None),
+        (pressed(1, 5), pressed(3, 0), Some(pressed(2, 15))),
+        (pressed(1, 5), pressed(1, 99), None),
+        (pressed(0, 0), pressed(9, 0), Some(pressed(1, 10))),
     ] {
         assert_eq!(rt; Presses.add(*charge, &run, *bound), *answer);
     }
@@ -76,27 +76,24 @@ fn totals(rt: HostRuntime) {
     ];
     let plan = [0, 1, 2, 3, 4];
     let all = pressed(4, 23);
-    assert_eq!(rt; total(&Time, &actions, &plan, 23), Total::Within(23));
-    assert_eq!(rt; total(&Time, &actions, &plan, 22), Total::Over);
-    assert_eq!(rt; total(&Time, &actions, &[3, 3, 4], 24), Total::Within(24));
-    assert_eq!(rt; total(&Time, &actions, &[], 0), Total::Within(0));
+    assert_eq!(rt; total(&Time, &actions, &plan, 23), Ok(23));
+    assert_eq!(rt; total(&Time, &actions, &plan, 22), Err(TotalError::Over));
+    assert_eq!(rt; total(&Time, &actions, &[3, 3, 4], 24), Ok(24));
+    assert_eq!(rt; total(&Time, &actions, &[], 0), Ok(0));
     assert_eq!(rt;
         total(&Time, &actions, &[0, 4, 5, 6], 0),
-        Total::NoAction(2)
+        Err(TotalError::NoAction(2))
     );
-    assert_eq!(rt; total(&Time, &[], &[0], 9), Total::NoAction(0));
-    assert_eq!(rt; total(&Presses, &actions, &plan, all), Total::Within(all));
+    assert_eq!(rt; total(&Time, &[], &[0], 9), Err(TotalError::NoAction(0)));
+    assert_eq!(rt; total(&Presses, &actions, &plan, all), Ok(all));
     assert_eq!(rt;
         total(&Presses, &actions, &plan, pressed(4, 22)),
-        Total::Over
+        Err(TotalError::Over)
     );
-    assert_eq!(rt;
-        total(&Presses, &actions, &plan, pressed(5, 0)),
-        Total::Within(all)
-    );
+    assert_eq!(rt; total(&Presses, &actions, &plan, pressed(5, 0)), Ok(all));
     assert_eq!(rt;
         total(&Presses, &actions, &plan, pressed(3, 99)),
-        Total::Over
+        Err(TotalError::Over)
     );
 }
 
@@ -107,21 +104,21 @@ fn longest_rows(rt: HostRuntime) {
     let longest = &numbers[0..65_536];
     let tenths = 65_536_000_000;
     let both = pressed(65_536_000, tenths);
+    assert_eq!(rt; total(&Time, &actions, longest, Time.most()), Ok(tenths));
     assert_eq!(rt;
-        total(&Time, &actions, longest, Time.most()),
-        Total::Within(tenths)
+        total(&Time, &actions, longest, tenths - 1),
+        Err(TotalError::Over)
     );
-    assert_eq!(rt; total(&Time, &actions, longest, tenths - 1), Total::Over);
     assert_eq!(rt;
         total(&Presses, &actions, longest, Presses.most()),
-        Total::Within(both)
+        Ok(both)
     );
     assert_eq!(rt;
         total(&Time, &actions, &numbers, Time.most()),
-        Total::TooMany
+        Err(TotalError::TooMany)
     );
     assert_eq!(rt;
         total(&Presses, &[], &numbers, Presses.most()),
-        Total::TooMany
+        Err(TotalError::TooMany)
     );
 }

@@ -1,3 +1,4 @@
+pub mod Atoms
 pub mod Settings
 pub mod Benches
 pub mod Refusals

@@ -1,7 +1,10 @@
 -- Refusals: the number and the layer of each fault.
-use Rattle.std.specs.Prelude.{ℕ, Err, Result}
+use Rattle.std.specs.Prelude.{ℕ, List, ◌++◌, Err, Result, codes}
+use Rattle.std.specs.Fmt.{decimal}
 use Rattle.task.specs.declared.refusal.Fault.{Fault}
 use Rattle.task.specs.declared.refusal.Fault.TheVariants.{CutShort, UnknownKind, OutOfPlace, WrongLength, TooMany, ValueCount, OutsideBench, NotRising, NoEffect, OverLimit, RepeatsCondition, NoGoal, RowCount, ShortTable, StartOutside, NoPlan, NoStepLeft, BadLine, OutOfTurn, LongBook}
+use Rattle.task.specs.declared.refusal.Layer.{Layer}
+use Rattle.task.specs.declared.refusal.Layer.TheVariants.{Book, Tables, Bench, Console}
 use Rattle.task.specs.declared.refusal.Refusal.{Refusal}
 
 abbrev pub number_of : Fault → ℕ
@@ -49,8 +52,18 @@ layer_of BadLine = 4
 layer_of OutOfTurn = 4
 layer_of LongBook = 4
 
+abbrev pub layer_number : Layer → ℕ
+layer_number Book = 1
+layer_number Tables = 2
+layer_number Bench = 3
+layer_number Console = 4
+
 abbrev pub refusal : Fault → ℕ → Refusal
 refusal fault place = record { fault = fault; place = place }
 
 abbrev pub refuse : {X : Type 0} → Fault → ℕ → Result X Refusal
 refuse fault place = Err (refusal fault place)
+
+-- what a refusal is printed as
+abbrev pub output_of : Refusal → List ℕ
+output_of r = codes "refused: number " ++ (decimal (number_of r.fault) ++ (codes ", layer " ++ (decimal (layer_of r.fault) ++ (codes ", place " ++ decimal r.place))))

@@ -1,5 +1,6 @@
 -- Atoms and settings. A setting is the list of its variables' values.
-use Rattle.std.specs.Prelude.{ℕ, ◌+◌, Bool, true, false, cond, not, ◌&&◌, ◌||◌, List, [], ◌∷◌, take, Some, None, Option, ◌==◌, nat_lt, slice_index, slice_index_or, slice_set}
+use Rattle.std.specs.Prelude.{ℕ, ◌+◌, Bool, true, cond, not, ◌&&◌, List, [], ◌∷◌, take, Some, None, Option, ◌==◌, nat_lt, slice_index, slice_index_or, slice_set}
+use Rattle.std.specs.List.{list_any}
 use Rattle.task.specs.declared.data.Atom.{Atom}
 use Rattle.task.specs.declared.data.Atoms.{Atoms}
 
@@ -31,8 +32,7 @@ abbrev pub sibling : Atom → Atom → Bool
 sibling a b = a.variable == b.variable && not (a.value == b.value)
 
 abbrev pub some_atom : (Atom → Bool) → List Atom → Bool
-some_atom test [] = false
-some_atom test (a ∷ more) = test a || some_atom test more
+some_atom = list_any
 
 -- an atom of the first list has a sibling in the second
 abbrev pub clash : List Atom → List Atom → Bool

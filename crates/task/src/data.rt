@@ -1,14 +1,27 @@
 // The data of a bench.
-ghost use Rattle.std.specs.Prelude.{◌≡◌, ◌≤◌, length};
+ghost use Rattle.std.specs.Prelude.{◌≡◌, ◌≤◌, length, Some};
+ghost use Rattle.task.specs.Atoms.{output_of};
+
+use std::fmt;
 
 // A variable with one of its values.
-#[derive(Clone, Copy, PartialEq, Eq, Debug)]
+#[derive(Clone, Copy, PartialEq, Eq, Debug, Default)]
 pub struct Atom {
     pub variable: u8,
     pub value: u8,
 }
 
-// Up to N atoms: the first `count` of `items`.
+impl fmt::Display for Atom {
+    ghost output = { λ a. Some (output_of a) };
+
+    fn fmt<W: fmt::Write>(&self, f: &mut fmt::Formatter<W>) -> fmt::Result {
+        let Atom { variable, value } = self;
+        write!(f, "{variable}={value}")
+    }
+}
+
+// Up to N atoms: the first `count` of `items`. No Vec: actions lie in tables that the caller lends, are copied,
+// and take no memory of their own.
 #[derive(Clone, Copy, PartialEq, Eq, Debug)]
 pub struct Atoms<const N: usize> {
     pub(crate) items: [Atom; N],

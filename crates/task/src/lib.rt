@@ -3,14 +3,14 @@
 
 ghost use Rattle.std.specs.Prelude.{◌≡◌, ◌≤◌, [], ◌∷◌, ◌++◌, length, take, if◌then◌else◌, nat_lt, slice_index_or};
 ghost use Rattle.task.specs.Settings.{listed, holding, met, unmet, assigned, sibling, some_atom, clash, outside};
-ghost use Rattle.task.specs.Benches.{act_of, interfering, alike, achieving};
-ghost use Rattle.task.specs.Refusals.{number_of, layer_of};
+ghost use Rattle.task.specs.Benches.{act_of, idle, interfering, alike, achieving};
+ghost use Rattle.task.specs.Refusals.{number_of, layer_of, layer_number, refusal};
 
 mod data;
 mod refusal;
 
 pub use data::{Action, Atom, Atoms, Task};
-pub use refusal::{Fault, Refusal};
+pub use refusal::{Fault, Layer, Refusal};
 
 // A value for each of 64 variables; past a bench's last variable it is 0.
 pub type Setting = [u8; 64];
@@ -53,6 +53,60 @@ impl<const N: usize> Atoms<N> {
     }
 }
 
+impl<const N: usize> Default for Atoms<N> {
+    ghost is_default = { λ a. listed a ≡ [] };
+
+    fn default() -> Self {
+        Atoms::none()
+    }
+}
+
+// Nothing is taken, needed or set.
+impl Default for Action {
+    ghost is_default = { λ a. act_of a ≡ idle };
+
+    fn default() -> Self {
+        Action {
+            tenths: 0,
+            presses: 0,
+            conditions: Atoms::default(),
+            effects: Atoms::default(),
+        }
+    }
+}
+
+impl Fault {
+    // The refusal for this fault at the place.
+    pub fn at(self, place: usize) -> Refusal
+        ensures { result ≡ refusal self place }
+    {
+        Refusal { fault: self, place }
+    }
+
+    // The layer that refuses with this fault.
+    pub fn layer(self) -> Layer
+        ensures { layer_number result ≡ layer_of self }
+    {
+        match self {
+            Fault::CutShort
+            | Fault::UnknownKind
+            | Fault::OutOfPlace
+            | Fault::WrongLength
+            | Fault::TooMany
+            | Fault::ValueCount
+            | Fault::OutsideBench
+            | Fault::NotRising
+            | Fault::NoEffect
+            | Fault::OverLimit
+            | Fault::RepeatsCondition
+            | Fault::NoGoal => Layer::Book,
+            Fault::RowCount | Fault::ShortTable => Layer::Tables,
+            Fault::StartOutside | Fault::NoPlan | Fault::NoStepLeft => Layer::Bench,
+            Fault::BadLine | Fault::OutOfTurn | Fault::LongBook => Layer::Console,
+        }
+    }
+}
+
 impl Refusal {
     // The number under which the fault is reported.
     pub fn number(&self) -> u8
@@ -61,16 +115,11 @@ impl Refusal {
         self.fault as u8
     }
 
-    // The layer that refused: 1 the book, 2 the tables, 3 the bench, 4 the console.
+    // The number of the layer that refused.
     pub fn layer(&self) -> u8
         ensures { result ≡ layer_of self.now.fault }
     {
-        match self.fault {
-            Fault::RowCount | Fault::ShortTable => 2,
-            Fault::StartOutside | Fault::NoPlan | Fault::NoStepLeft => 3,
-            Fault::BadLine | Fault::OutOfTurn | Fault::LongBook => 4,
-            _ => 1,
-        }
+        self.fault.layer() as u8
     }
 }
 
@@ -78,8 +127,7 @@ impl Refusal {
 pub fn holds(setting: Setting, atom: Atom) -> bool
     ensures { result ≡ holding setting atom }
 {
-    let at = atom.variable as usize;
-    let value = if at < 64 { setting[at] } else { 0 };
+    let value = setting.get(atom.variable as usize).copied().unwrap_or(0);
     value == atom.value
 }
 
@@ -87,12 +135,7 @@ pub fn holds(setting: Setting, atom: Atom) -> bool
 pub fn first_unmet(setting: Setting, atoms: &[Atom]) -> Option<Atom>
     ensures { result ≡ unmet setting atoms.now }
 {
-    for atom in atoms {
-        if !holds(setting, *atom) {
-            return Some(*atom);
-        }
-    }
-    None
+    atoms.iter().copied().find(|atom| !holds(setting, *atom))
 }
 
 // Do all of the action's conditions hold?
@@ -115,6 +158,7 @@ fn assign(setting: Setting, atoms: &[Atom]) -> Setting
 {
     let mut next = setting;
     for atom in atoms {
+        // A test and an index: the library says nothing of what a slice holds after `get_mut`.
         let at = atom.variable as usize;
         if at < 64 {
             next[at] = atom.value;
@@ -141,24 +185,14 @@ pub fn siblings(a: Atom, b: Atom) -> bool
 fn has_sibling(atom: Atom, atoms: &[Atom]) -> bool
     ensures { result ≡ some_atom (sibling atom) atoms.now }
 {
-    for other in atoms {
-        if siblings(atom, *other) {
-            return true;
-        }
-    }
-    false
+    atoms.iter().any(|other| siblings(atom, *other))
 }
 
 // Does an atom of the first list have a sibling in the second?
 fn clashes(first: &[Atom], second: &[Atom]) -> bool
     ensures { result ≡ clash first.now second.now }
 {
-    for atom in first {
-        if has_sibling(*atom, second) {
-            return true;
-        }
-    }
-    false
+    first.iter().any(|atom| has_sibling(*atom, second))
 }
 
 // Is an effect of one action a sibling of a condition or an effect of the other?
@@ -174,37 +208,15 @@ pub fn interferes(a: &Action, b: &Action) -> bool
 fn size_of(task: &Task, variable: usize) -> u8
     ensures { result ≡ slice_index_or (take task.now.variables task.now.sizes) variable 1 }
 {
-    if variable < task.variables {
-        task.sizes[variable]
-    } else {
-        1
-    }
-}
-
-// Are the atoms the same?
-fn same(a: Atom, b: Atom) -> bool
-    ensures { result ≡ alike a b }
-{
-    a.variable == b.variable && a.value == b.value
-}
-
-// Is the atom among the atoms?
-fn among(atom: Atom, atoms: &[Atom]) -> bool
-    ensures { result ≡ some_atom (λ e. alike e atom) atoms.now }
-{
-    for other in atoms {
-        if same(*other, atom) {
-            return true;
-        }
-    }
-    false
+    let sizes = &task.sizes[..];
+    sizes[0..task.variables].get(variable).copied().unwrap_or(1)
 }
 
 // Is the atom among the action's effects?
 pub fn achieves(action: &Action, atom: Atom) -> bool
     ensures { result ≡ achieving (act_of action.now) atom }
 {
-    among(atom, action.effects.list())
+    action.effects.list().contains(&atom)
 }
 
 // The lowest variable whose value lies outside the bench: not below its number of values, or not 0 past
@@ -212,10 +224,5 @@ pub fn achieves(action: &Action, atom: Atom) -> bool
 pub fn first_outside(task: &Task, setting: Setting) -> Option<usize>
     ensures { result ≡ outside (take task.now.variables task.now.sizes) 0 setting }
 {
-    for v in 0..64 {
-        if setting[v] >= size_of(task, v) {
-            return Some(v);
-        }
-    }
-    None
+    (0..64).find(|v| setting[*v] >= size_of(task, *v))
 }

@@ -1,14 +1,14 @@
 // Lines, fields and decimal numbers in a text of bytes.
 #![tactic(auto)]
 
-ghost use Rattle.std.specs.Prelude.{◌≡◌, ◌^◌, ◌<◌, min, ◌&&◌, length, IfSome, nat_le};
+ghost use Rattle.std.specs.Prelude.{◌≡◌, ◌^◌, ◌<◌, min, IfSome};
 ghost use Rattle.text.specs.declared.Unread.TheVariants.{Memory};
-ghost use Rattle.text.specs.Fields.{before, after, is_digit, decimal, numbers_on};
+ghost use Rattle.text.specs.Fields.{before, after, any_decimal, decimal, numbers_on};
 ghost use Rattle.text.specs.Answers.{Told};
 
 use std::alloc::{AllocError, AllocFailed, Global};
 
-// No number of more digits is read.
+// `number` reads none of more digits.
 const MOST_DIGITS: usize = 18;
 
 // What stands before and after the first `mark`: all and nothing where there is none.
@@ -16,43 +16,40 @@ pub fn cut(text: &[u8], mark: u8) -> (&[u8], &[u8])
     ensures front { result.0.now ≡ before mark text.now }
     ensures back { result.1.now ≡ after mark text.now }
 {
-    for (i, b) in text.iter().enumerate() {
-        if *b == mark {
-            return (&text[0..i], &text[i + 1..]);
-        }
+    match text.iter().position(|b| *b == mark) {
+        Some(i) => (&text[..i], &text[i + 1..]),
+        None => (text, &[]),
     }
-    (text, &text[text.len()..])
 }
 
-fn digit(b: u8) -> bool
-    ensures { result ≡ is_digit b }
+// A decimal number below 2 ^ 64, of one digit or more, and nothing else.
+#[tactic(auto, using(crate::proofs::Decimals::more, crate::proofs::Decimals::too_large))]
+pub fn any_number(text: &[u8]) -> Option<u64>
+    ensures { result ≡ any_decimal text.now }
 {
-    b'0' <= b && b <= b'9'
-}
-
-// Are there one to `limit` bytes, and at most eighteen?
-fn short(text: &[u8], limit: usize) -> bool
-    ensures { result ≡ (nat_le 1 (length text.now) && nat_le (length text.now) (min limit 18)) }
-{
-    1 <= text.len() && text.len() <= limit.min(MOST_DIGITS)
-}
-
-// A decimal number of one to `limit` digits, and nothing else; none of more than eighteen digits is read.
-pub fn number(text: &[u8], limit: usize) -> Option<u64>
-    ensures value { result ≡ decimal limit text.now }
-    ensures bound { IfSome result (λ n. n < 10 ^ min limit 18) }
-{
-    if !short(text, limit) {
+    if text.is_empty() {
         return None;
     }
     let mut value: u64 = 0;
     for b in text {
-        if !digit(*b) {
+        if !b.is_ascii_digit() {
             return None;
         }
-        value = value * 10 + (*b - b'0') as u64;
+        value = value.checked_mul(10)?.checked_add((*b - b'0') as u64)?;
     }
     Some(value)
+}
+
+// A decimal number of one to `limit` digits, and nothing else; none of more than eighteen digits is read.
+#[tactic(auto, using(crate::proofs::Decimals::few))]
+pub fn number(text: &[u8], limit: usize) -> Option<u64>
+    ensures value { result ≡ decimal limit text.now }
+    ensures bound { IfSome result (λ n. n < 10 ^ min limit 18) }
+{
+    if text.len() > limit.min(MOST_DIGITS) {
+        return None;
+    }
+    any_number(text)
 }
 
 // Why a line's numbers were not read: the first field, from 1, that is no number, or want of memory.
@@ -83,16 +80,13 @@ pub fn numbers(heap: Global, line: &[u8]) -> Result<Vec<u32>, Unread>
     ensures { Told (numbers_on line.now) result }
 {
     let mut sofar = Vec::new(heap);
-    let mut left = line;
-    let mut more = !line.is_empty();
-    while more {
-        let (field, rest) = cut(left, b' ');
-        let Some(n) = number(field, 9) else {
-            return Err(Unread::Field(sofar.len() + 1));
-        };
+    if line.is_empty() {
+        return Ok(sofar);
+    }
+    for field in line.split(|b| *b == b' ') {
+        let place = sofar.len() + 1;
+        let n = number(field, 9).ok_or(Unread::Field(place))?;
         sofar.push(n as u32)?;
-        more = field.len() < left.len();
-        left = rest;
     }
     Ok(sofar)
 }

@@ -17,11 +17,11 @@ pub starts : (s : List ℕ) → Counted (standing s)
 starts s = record { acts = []; billable = tt; long = refl; low = omega arith; time_is = refl; presses_is = refl }
 
 module _ (w : Standing) (a : Action) (counted : Counted w) (low : w.step ≤ 65536) where
-  pub time_few : SumOfFew time (and_act time w.time (act_of a))
-  time_few = record { acts = act_of a ∷ counted.acts; few = omega (arith, counted.long); billable = (a.limits, counted.billable); is = and_front time w.time counted.acts (act_of a) counted.time_is }
+  pub time_few : SumOfFew time (and_act time w.costs.time (act_of a))
+  time_few = record { acts = act_of a ∷ counted.acts; few = omega (arith, counted.long); billable = (a.limits, counted.billable); is = and_front time w.costs.time counted.acts (act_of a) counted.time_is }
 
-  pub presses_few : SumOfFew pressing (and_act pressing w.presses (act_of a))
-  presses_few = record { acts = act_of a ∷ counted.acts; few = omega (arith, counted.long); billable = (a.limits, counted.billable); is = and_front pressing w.presses counted.acts (act_of a) counted.presses_is }
+  pub presses_few : SumOfFew pressing (and_act pressing w.costs.presses (act_of a))
+  presses_few = record { acts = act_of a ∷ counted.acts; few = omega (arith, counted.long); billable = (a.limits, counted.billable); is = and_front pressing w.costs.presses counted.acts (act_of a) counted.presses_is }
 
   pub goes_on : Counted (moved w (act_of a))
   goes_on = record {
@@ -29,6 +29,6 @@ module _ (w : Standing) (a : Action) (counted : Counted w) (low : w.step ≤ 655
     billable = (a.limits, counted.billable);
     long = omega (arith, counted.long);
     low = omega arith;
-    time_is = and_front time w.time counted.acts (act_of a) counted.time_is;
-    presses_is = and_front pressing w.presses counted.acts (act_of a) counted.presses_is;
+    time_is = and_front time w.costs.time counted.acts (act_of a) counted.time_is;
+    presses_is = and_front pressing w.costs.presses counted.acts (act_of a) counted.presses_is;
   }

@@ -1,5 +1,3 @@
 pub mod Charged
-pub mod Steps
-pub mod Made
 pub mod Rights
-pub mod Books
+pub mod Settings

@@ -17,8 +17,6 @@ use Rattle.text.specs.Fields.{before, after, numbers_on}
 use Rattle.validate.specs.declared.data.Standing.{Standing}
 use Rattle.validate.specs.declared.data.Line.{Line}
 use Rattle.validate.specs.declared.data.Line.TheVariants as line
-use Rattle.validate.specs.declared.data.Attempt.{Attempt}
-use Rattle.validate.specs.declared.data.Attempt.TheVariants as attempt
 
 -- a line of what is said, with each action's atoms as lists
 pub data Said : Type 0 where
@@ -36,43 +34,35 @@ shown (line.Refused r) = refused r
 shown (line.NotANumber l f) = not_a_number l f
 shown (line.WrongCount given wanted) = wrong_count given wanted
 shown line.TooMany = too_many
-shown (line.Done k a t p) = done k (act_of a) t p
+shown (line.Done k a costs) = done k (act_of a) costs.time costs.presses
 shown (line.NoAction i k) = no_action i k
 shown (line.NotApplicable i k a) = not_applicable i k a
-shown (line.End goal t p) = finished goal t p
+shown (line.End goal costs) = finished goal costs.time costs.presses
 
 -- the walk with one action more
 abbrev pub moved : Standing → Act → Standing
-moved w a = record { step = w.step + 1; setting = assigned w.setting a.effects; time = and_act time w.time a; presses = and_act pressing w.presses a }
+moved w a = record { step = w.step + 1; setting = assigned w.setting a.effects; costs = record { time = and_act time w.costs.time a; presses = and_act pressing w.costs.presses a } }
 
 -- one action of a walk: it is done, or why not
-pub data Outcome : Type 0 where
-  went : Act → Outcome
-  stopped : Said → Outcome
+abbrev pub by_unmet : Option Atom → ℕ → ℕ → Act → Result Act Said
+by_unmet None i k a = Ok a
+by_unmet (Some atom) i k a = Err (not_applicable i k atom)
 
-abbrev pub outcome : Attempt → Outcome
-outcome (attempt.Went a) = went (act_of a)
-outcome (attempt.Stopped l) = stopped (shown l)
-
-abbrev pub by_unmet : Option Atom → ℕ → ℕ → Act → Outcome
-by_unmet None i k a = went a
-by_unmet (Some atom) i k a = stopped (not_applicable i k atom)
-
-abbrev pub tried : Bench → Standing → ℕ → Outcome
+abbrev pub tried : Bench → Standing → ℕ → Result Act Said
 tried b w k =
-    cond (nat_lt k (length b.actions)) (by_unmet (unmet w.setting (act b k).conditions) w.step k (act b k)) (stopped (no_action w.step k))
+    cond (nat_lt k (length b.actions)) (by_unmet (unmet w.setting (act b k).conditions) w.step k (act b k)) (Err (no_action w.step k))
 
-abbrev pub said_of : Outcome → Standing → ℕ → (Standing → List Said) → List Said
-said_of (went a) w k go = done k a (moved w a).time (moved w a).presses ∷ go (moved w a)
-said_of (stopped s) w k go = s ∷ []
+abbrev pub said_of : Result Act Said → Standing → ℕ → (Standing → List Said) → List Said
+said_of (Ok a) w k go = done k a (moved w a).costs.time (moved w a).costs.presses ∷ go (moved w a)
+said_of (Err s) w k go = s ∷ []
 
 -- what is said of the actions from here on
 abbrev pub steps : Bench → Standing → List ℕ → List Said
-steps b w [] = finished (met w.setting b.goal) w.time w.presses ∷ []
+steps b w [] = finished (met w.setting b.goal) w.costs.time w.costs.presses ∷ []
 steps b w (k ∷ more) = said_of (tried b w k) w k (λ next. steps b next more)
 
 abbrev pub standing : List ℕ → Standing
-standing s = record { step = 1; setting = s; time = time.zero; presses = pressing.zero }
+standing s = record { step = 1; setting = s; costs = record { time = time.zero; presses = pressing.zero } }
 
 -- what is said of a walk from a setting
 abbrev pub walked : Bench → List ℕ → List ℕ → List Said
@@ -87,19 +77,27 @@ placed s i (x ∷ more) = placed (slice_set s i (min x 255)) (i + 1) more
 abbrev pub setting_of : List ℕ → List ℕ
 setting_of values = placed (replicate 64 0) 0 values
 
+abbrev pub within : List ℕ → Option ℕ → Result (List ℕ) Said
+within s (Some v) = Err (refused (refusal StartOutside v))
+within s None = Ok s
+
+-- the start's setting, of a bench of these sizes, or why there is none
+abbrev pub begun : List ℕ → List ℕ → Result (List ℕ) Said
+begun sizes values =
+    cond (length values == length sizes)
+    (within (setting_of values) (outside sizes 0 (setting_of values)))
+    (Err (wrong_count (length values) (length sizes)))
+
 abbrev pub by_actions : Bench → List ℕ → Result (List ℕ) ℕ → List Said
 by_actions b s (Ok numbers) = walked b s numbers
 by_actions b s (Err field) = not_a_number 2 field ∷ []
 
-abbrev pub by_outside : Bench → List ℕ → Option ℕ → Result (List ℕ) ℕ → List Said
-by_outside b s (Some v) numbers = refused (refusal StartOutside v) ∷ []
-by_outside b s None numbers = by_actions b s numbers
+abbrev pub by_start : Bench → Result (List ℕ) Said → Result (List ℕ) ℕ → List Said
+by_start b (Ok s) numbers = by_actions b s numbers
+by_start b (Err line) numbers = line ∷ []
 
 abbrev pub by_values : Bench → Result (List ℕ) ℕ → Result (List ℕ) ℕ → List Said
-by_values b (Ok values) numbers =
-    cond (length values == length b.sizes)
-    (by_outside b (setting_of values) (outside b.sizes 0 (setting_of values)) numbers)
-    (wrong_count (length values) (length b.sizes) ∷ [])
+by_values b (Ok values) numbers = by_start b (begun b.sizes values) numbers
 by_values b (Err field) numbers = not_a_number 1 field ∷ []
 
 -- what is said of the walk that a text asks for: its first line has the start's values, its second the
@@ -121,5 +119,5 @@ pub record Counted (w : Standing) : Type 0 where
   pub billable : AllByRecursion Billable acts
   pub long : length acts + 1 ≡ w.step
   pub low : w.step ≤ 65537
-  pub time_is : w.time ≡ sum time acts
-  pub presses_is : w.presses ≡ sum pressing acts
+  pub time_is : w.costs.time ≡ sum time acts
+  pub presses_is : w.costs.presses ≡ sum pressing acts

@@ -1,14 +1,31 @@
 // What a walk is, and what it says.
-use tariff::Pressed;
-use task::{Action, Atom, Refusal};
+ghost use Rattle.std.specs.Prelude.{◌≡◌, ◌≤◌, length};
+
+use std::alloc::AllocError;
+use tariff::{Pressed, Presses, Tariff, Time};
+use task::{Action, Atom, Refusal, Setting, Task};
+
+// A task with the table that its actions lie in.
+#[derive(Clone, Copy)]
+pub struct Bench<'a> {
+    pub task: &'a Task,
+    pub actions: &'a [Action],
+    ghost enough: { task.now.actions ≤ length actions.now },
+}
+
+// What some actions cost, by Time and by Presses.
+#[derive(Clone, Copy)]
+pub struct Costs {
+    pub time: u64,
+    pub presses: Pressed,
+}
 
 // Where a walk stands: before which action, from 1, in which setting, and what it has cost.
 #[derive(Clone, Copy)]
 pub struct Standing {
     pub step: usize,
-    pub setting: [u8; 64],
-    pub time: u64,
-    pub presses: Pressed,
+    pub setting: Setting,
+    pub costs: Costs,
 }
 
 // A line of what is said.
@@ -28,12 +45,11 @@ pub enum Line {
     },
     // There are over 65,536 actions.
     TooMany,
-    // The action is done; the charges are those of the walk so far.
+    // The action is done; the costs are those of the walk so far.
     Done {
         number: u32,
         action: Action,
-        time: u64,
-        presses: Pressed,
+        costs: Costs,
     },
     // The number names no action.
     NoAction {
@@ -49,14 +65,13 @@ pub enum Line {
     // All actions are done: whether the goal holds, and what the walk costs.
     End {
         goal: bool,
-        time: u64,
-        presses: Pressed,
+        costs: Costs,
     },
 }
 
-// One action of a walk: it can be done, or the walk stops.
+// Why no walk is begun: the one line that is said, or want of memory.
 #[derive(Clone, Copy)]
-pub enum Attempt {
-    Went(Action),
-    Stopped(Line),
+pub enum Unwalked {
+    Because(Line),
+    Memory(AllocError),
 }

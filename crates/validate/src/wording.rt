@@ -1,35 +1,22 @@
 // The words of a walk's lines.
-use crate::data::Line;
+use crate::data::{Costs, Line};
 use std::fmt;
-use tariff::Pressed;
-use task::{Action, Atom, Refusal};
-
-fn refused<W: fmt::Write>(f: &mut fmt::Formatter<W>, refusal: &Refusal) -> fmt::Result {
-    let number = refusal.number();
-    let layer = refusal.layer();
-    let place = refusal.place;
-    write!(f, "refused: number {number}, layer {layer}, place {place}")
-}
+use task::{Action, Atom};
 
 fn done<W: fmt::Write>(
     f: &mut fmt::Formatter<W>,
     number: u32,
     action: &Action,
-    time: u64,
-    charge: Pressed,
+    costs: &Costs,
 ) -> fmt::Result {
     write!(f, "action {number} sets")?;
     for atom in action.effects.list() {
-        let variable = atom.variable;
-        let value = atom.value;
-        write!(f, " {variable}={value}")?;
+        write!(f, " {atom}")?;
     }
-    let tenths = action.tenths;
-    let presses = action.presses;
-    let pressed = charge.presses;
     write!(
         f,
-        ": {tenths} tenths, {presses} presses; so far {time} tenths, {pressed} presses"
+        ": {} tenths, {} presses; so far {} tenths, {} presses",
+        action.tenths, action.presses, costs.time, costs.presses.presses
     )
 }
 
@@ -39,37 +26,25 @@ fn stopped<W: fmt::Write>(
     number: u32,
     condition: Atom,
 ) -> fmt::Result {
-    let variable = condition.variable;
-    let value = condition.value;
     write!(
         f,
-        "stopped at step {step}: action {number} is not applicable, {variable}={value} does not hold"
+        "stopped at step {step}: action {number} is not applicable, {condition} does not hold"
     )
 }
 
-fn ended<W: fmt::Write>(
-    f: &mut fmt::Formatter<W>,
-    goal: bool,
-    time: u64,
-    charge: Pressed,
-) -> fmt::Result {
-    let presses = charge.presses;
-    let tenths = charge.tenths;
-    if goal {
-        write!(f, "the goal holds")?;
-    } else {
-        write!(f, "the goal does not hold")?;
-    }
+fn ended<W: fmt::Write>(f: &mut fmt::Formatter<W>, goal: bool, costs: &Costs) -> fmt::Result {
+    let holds = if goal { "holds" } else { "does not hold" };
     write!(
         f,
-        "\ncost by Time: {time} tenths\ncost by Presses: {presses} presses, {tenths} tenths"
+        "the goal {holds}\ncost by Time: {} tenths\ncost by Presses: {} presses, {} tenths",
+        costs.time, costs.presses.presses, costs.presses.tenths
     )
 }
 
 impl fmt::Display for Line {
     fn fmt<W: fmt::Write>(&self, f: &mut fmt::Formatter<W>) -> fmt::Result {
         match self {
-            Line::Refused(refusal) => refused(f, refusal),
+            Line::Refused(refusal) => write!(f, "{refusal}"),
             Line::NotANumber { line, field } => {
                 write!(
                     f,
@@ -86,9 +61,8 @@ impl fmt::Display for Line {
             Line::Done {
                 number,
                 action,
-                time,
-                presses,
-            } => done(f, *number, action, *time, *presses),
+                costs,
+            } => done(f, *number, action, costs),
             Line::NoAction { step, number } => {
                 write!(f, "stopped at step {step}: there is no action {number}")
             }
@@ -97,11 +71,7 @@ impl fmt::Display for Line {
                 number,
                 condition,
             } => stopped(f, *step, *number, *condition),
-            Line::End {
-                goal,
-                time,
-                presses,
-            } => ended(f, *goal, *time, *presses),
+            Line::End { goal, costs } => ended(f, *goal, costs),
         }
     }
 }

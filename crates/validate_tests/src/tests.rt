@@ -1,9 +1,11 @@
 // What is said of walks through the Keypad bench, worked out by hand.
 use std::alloc::{AllocError, Global};
+use std::fmt::Write;
 use std::test::Fail;
 use validate::walk;
 
-// Four variables, five actions and the goal, a record to a line.
+// Four variables, five actions and the goal.
+// The search's tests have these bytes too: a crate for one constant would be no plainer.
 const KEYPAD: [u8; 119] = [
     1, 0, 1, 0, 3, 1, 0, 1, 0, 2, 1, 0, 1, 0, 2, 1, 0, 1, 0, 2, 12, 0, 2, 0, 2, 0, 0, 0, 1, 0, 1,
     1, 0, 0, 0, 1, 12, 0, 2, 0, 2, 0, 0, 0, 1, 0, 1, 1, 0, 1, 0, 2, 16, 0, 2, 0, 5, 0, 0, 0, 1, 0,
@@ -14,9 +16,8 @@ const KEYPAD: [u8; 119] = [
 // All that is said, a line after another.
 fn said(heap: Global, book: &[u8], input: &[u8]) -> Result<String, AllocError> {
     let mut text = String::new(heap);
-    for line in walk(heap, book, input)?.iter() {
-        text.push_str(line.to_string(heap)?.as_str())?;
-        text.push_str("\n")?;
+    for line in &walk(heap, book, input)? {
+        writeln!(text, "{line}")?;
     }
     Ok(text)
 }
@@ -96,9 +97,7 @@ fn long_walks(rt: HostRuntime) -> Result<(), Fail> {
     let heap = rt.alloc();
     let mut input = Vec::new(heap);
     input.extend_from_slice(b"0 1 0 0\n4")?;
-    for _ in 0..65_536u32 {
-        input.extend_from_slice(b" 4")?;
-    }
+    input.extend_from_slice(&b" 4".repeat(heap, 65_536)?)?;
     assert_eq!(rt;
         said(heap, &KEYPAD, input.as_slice())?.as_str(),
         "over 65536 actions\n"

@@ -1,15 +1,17 @@
-use Rattle.std.proofs.Common.{Err, sym, subst}
-use Rattle.task.specs.Refusals.{refusal}
+use Rattle.std.proofs.Common.{◌≡◌, sym, ◌∙◌, rules}
+use Rattle.std.proofs.lemmas.Result.{err_from_is_err_and}
 use Rattle.book.specs.Records.{shown, offset}
-use Rattle.book.specs.Format.{admitted}
-use Rattle.book.specs.Reader.{Agree, Outline}
+use Rattle.book.proofs.Faults.{placed, map_err_is}
 use Rattle.book.proofs.Steps.{refused, accepted}
 use Rattle.book.proofs.admit.Goals as goal
 
-pub returns-in-Some : goal.returns-in-Some
-returns-in-Some c b o =
-    subst (λ at. Agree Outline (Err (refusal c.in-Some.fault at)) (admitted b (shown c.args.part) (offset c.args.part))) (sym c.place_of.ensures)
-    (refused c.args.task b o (shown c.args.part) c.in-Some.fault (offset c.args.part) c.in-Some.ensures)
+pub returns-in_err-map_err : goal.returns-in_err-map_err
+returns-in_err-map_err c b o =
+    let checked : c.map_err.result ≡ placed c.check.result c.place-place.result = search (rules, map_err_is) in
+    let p = err_from_is_err_and c.from_residual.result c.from_residual.ensures.1 in
+    rw (p.1, p.2) (refused c.args.task b o (shown c.args.part) (offset c.args.part) c.in_err-map_err.field-0.0 (sym c.in_err-map_err.was ∙ checked ∙ (λ i. placed (c.check.ensures i) (c.place-place.ensures i))))
 
-pub returns-in-None : goal.returns-in-None
-returns-in-None c b o = accepted c.args.task b o (shown c.args.part) (offset c.args.part) c.in-None.ensures (c.grow.ensures b o)
+pub returns : goal.returns
+returns c b o =
+    let checked : c.map_err.result ≡ placed c.check.result c.place-place.result = search (rules, map_err_is) in
+    accepted c.args.task b o (shown c.args.part) (offset c.args.part) (sym c.in_ok-map_err.was ∙ checked ∙ (λ i. placed (c.check.ensures i) (c.place-place.ensures i))) (c.grow.ensures b o)

@@ -1,45 +1,28 @@
-use Rattle.std.proofs.Common.{◌≡◌, ◌<◌, ◌≤◌, length, arith, rules}
-use Rattle.task.specs.Benches.{Bench}
-use Rattle.book.specs.Records.{shown}
-use Rattle.book.proofs.Runs.{begins}
-use Rattle.book.proofs.Accepted.{filling_begins, takes, same_head, same_parts, no_head, no_parts, has_room, goes_on, filled, limited_parts}
+use Rattle.std.proofs.Common.{◌≡◌, ap, sym, ◌∙◌, arith, rules}
+use Rattle.book.specs.Records.{shown, shown_result}
+use Rattle.book.proofs.Accepted.{filling_begins, said, said_by, second, no_fault, filled}
 use Rattle.book.proofs.fill.Goals as goal
 
-pub loop-left-init : goal.loop-left-init
-loop-left-init c = filling_begins c.args.book.now c.args.actions.now (begins c.args.book.now)
+pub loop-raw-init : goal.loop-raw-init
+loop-raw-init c = filling_begins c.args.book.now c.args.actions.now c.into_iter-raw-iterator.result (ap (λ z. z.left.now) c.into_iter-raw-iterator.ensures.into_iter_gives ∙ c.of-raw-items.ensures.left) (ap (λ z. z.at) c.into_iter-raw-iterator.ensures.into_iter_gives ∙ c.of-raw-items.ensures.place)
 
 pub returns-in_default : goal.returns-in_default
 returns-in_default c b e =
-    let some : 0 < length c.loop-left.left.now = search rules in
-    let t = takes c.args.book.now c.loop-left.left.now c.loop-left.at c.loop-left.invariant.reached b c.loop-left.invariant.walk some e in
-    absurd (no_head c.loop-left.invariant.reached c.loop-left.left.now c.loop-left.at t.next t.admitted c.in_default.field-0 c.in_default.ensures.value)
-
-pub returns-in_default-record_of : goal.returns-in_default-record_of
-returns-in_default-record_of c b e =
-    let some : 0 < length c.loop-left.left.now = search rules in
-    let t = takes c.args.book.now c.loop-left.left.now c.loop-left.at c.loop-left.invariant.reached b c.loop-left.invariant.walk some e in
-    absurd (no_parts c.loop-left.invariant.reached c.loop-left.left.now c.loop-left.at t.next t.admitted c.in-Ok.head c.in-Ok.ensures.value c.in_default-record_of.field-0 c.in_default-record_of.ensures.value)
+    let read : shown_result c.and_then.result ≡ said c.in-Some.raw = search (rules, said_by) in
+    absurd (no_fault c.args.book.now c.loop-raw.raw-iterator c.next.new.self c.in-Some.raw c.loop-raw.count c.args.actions.now c.loop-raw.actions b c.in_default.field-0 c.loop-raw.invariant c.in-Some.ensures.steps e (sym (ap shown_result c.in_default.is) ∙ read))
 
 pub put-count-requires : goal.put-count-requires
 put-count-requires c =
-    let some : 0 < length c.loop-left.left.now = search rules in
-    let b : Bench = c.requires.bench in
-    let t = takes c.args.book.now c.loop-left.left.now c.loop-left.at c.loop-left.invariant.reached b c.loop-left.invariant.walk some c.requires.accepted in
-    let h = same_head c.loop-left.invariant.reached c.loop-left.left.now c.loop-left.at t.next t.admitted c.in-Ok.head c.in-Ok.ensures.value in
-    let p = same_parts c.loop-left.invariant.reached c.loop-left.left.now c.loop-left.at t.next t.admitted c.in-Ok.head (shown c.in-Ok-record_of.part) c.in-Ok.ensures.value c.in-Ok-record_of.ensures.value in
-    let places : length b.actions ≤ length c.loop-left.actions = omega (arith, c.requires.room) in
-    (limited_parts c.loop-left.invariant.reached c.loop-left.left.now c.loop-left.at t.next t.admitted (shown c.in-Ok-record_of.part) p, has_room c.args.book.now c.loop-left.left.now c.loop-left.at c.loop-left.count c.args.actions.now c.loop-left.actions b c.loop-left.invariant t c.in-Ok.head (shown c.in-Ok-record_of.part) c.requires.accepted h p c.in-Ok.ensures.within (length c.loop-left.actions) places)
+    let read : shown_result c.and_then.result ≡ said c.in-Some.raw = search (rules, said_by) in
+    let s = second c.args.book.now c.loop-raw.raw-iterator c.next.new.self c.in-Some.raw c.loop-raw.count c.args.actions.now c.loop-raw.actions (shown c.in-Ok.part) c.requires c.loop-raw.invariant c.in-Some.ensures.steps (sym (ap shown_result c.in-Ok.is) ∙ read) in
+    (s.limited, omega (arith, s.room))
 
-pub loop-left-preserved : goal.loop-left-preserved
-loop-left-preserved c =
-    let some : 0 < length c.loop-left.left.now = search rules in
-    let b : Bench = c.requires.bench in
-    let t = takes c.args.book.now c.loop-left.left.now c.loop-left.at c.loop-left.invariant.reached b c.loop-left.invariant.walk some c.requires.accepted in
-    let h = same_head c.loop-left.invariant.reached c.loop-left.left.now c.loop-left.at t.next t.admitted c.in-Ok.head c.in-Ok.ensures.value in
-    let p = same_parts c.loop-left.invariant.reached c.loop-left.left.now c.loop-left.at t.next t.admitted c.in-Ok.head (shown c.in-Ok-record_of.part) c.in-Ok.ensures.value c.in-Ok-record_of.ensures.value in
-    goes_on c.args.book.now c.loop-left.left.now c.loop-left.at c.loop-left.count c.args.actions.now c.loop-left.actions b c.loop-left.invariant t c.in-Ok.head (shown c.in-Ok-record_of.part) h p c.in-Ok.ensures.within c.put-count.result c.put-count.new.actions c.put-count.ensures.value c.put-count.ensures.first c.put-count.ensures.rest
+pub loop-raw-preserved : goal.loop-raw-preserved
+loop-raw-preserved c =
+    let read : shown_result c.and_then.result ≡ said c.in-Some.raw = search (rules, said_by) in
+    let s = second c.args.book.now c.loop-raw.raw-iterator c.next.new.self c.in-Some.raw c.loop-raw.count c.args.actions.now c.loop-raw.actions (shown c.in-Ok.part) c.requires c.loop-raw.invariant c.in-Some.ensures.steps (sym (ap shown_result c.in-Ok.is) ∙ read) in
+    s.on c.put-count.result c.put-count.new.actions c.put-count.ensures.value c.put-count.ensures.first c.put-count.ensures.rest
 
 pub returns : goal.returns
 returns c b e =
-    let none : length c.loop-left.left.now ≡ 0 = search rules in
-    filled c.args.book.now c.loop-left.left.now c.loop-left.at c.loop-left.count c.args.actions.now c.loop-left.actions b c.loop-left.invariant none e
+    filled c.args.book.now c.loop-raw.raw-iterator.left.now c.loop-raw.raw-iterator.at c.loop-raw.count c.args.actions.now c.loop-raw.actions b c.loop-raw.invariant c.in-None.ensures.steps e

@@ -1,9 +1,5 @@
-use Rattle.std.proofs.Common.{length}
 use Rattle.book.proofs.Accepted.{Filling}
 use Rattle.book.proofs.fill.Given as goal
 
-abbrev pub invariant-loop-left : goal.invariant-loop-left
-invariant-loop-left l = Filling l.book l.left l.at l.count l.initial.actions l.actions
-
-abbrev pub decreases-loop-left : goal.decreases-loop-left
-decreases-loop-left l = length l.left
+abbrev pub invariant-loop-raw : goal.invariant-loop-raw
+invariant-loop-raw l = Filling l.book l.raw-iterator.left.now l.raw-iterator.at l.count l.initial.actions l.actions

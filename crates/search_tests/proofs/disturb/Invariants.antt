@@ -1,6 +1,8 @@
-use Rattle.std.proofs.Common.{◌+◌, ◌%◌, eqb}
-use Rattle.search_tests.proofs.Disturbs.{Sofar}
+use Rattle.std.proofs.Common.{◌≡◌, ℕ, ◌+◌, ◌%◌, ◌<◌, ◌≤◌, cond, eqb, get_or}
 use Rattle.search_tests.proofs.disturb.Given as goal
 
 abbrev pub invariant-loop-k : goal.invariant-loop-k
-invariant-loop-k l = Sofar (λ k. eqb ((l.offset + k % 3) % 3) 0) l.initial.marks l.marks l.k
+invariant-loop-k l = record {
+  done : (k : ℕ) → k < l.k → get_or l.marks k 0 ≡ cond (eqb ((l.offset + k % 3) % 3) 0) 1 (get_or l.initial.marks k 0);
+  left : (k : ℕ) → l.k ≤ k → get_or l.marks k 0 ≡ get_or l.initial.marks k 0;
+}

@@ -1,16 +1,17 @@
-use Rattle.std.proofs.Common.{◌≡◌, sym, ap, ◌∙◌}
-use Rattle.std.proofs.lemmas.List.{at_drop_more, at_drop_all}
-use Rattle.std.proofs.lemmas.Bool.{cond-true, cond-false}
-use Rattle.task.specs.Settings.{unmet}
+use Rattle.std.proofs.Common.{◌≡◌, not, sym, ◌∙◌, rules}
+use Rattle.std.proofs.lemmas.Iterator.Adapters.{option_map_id}
+use Rattle.std.proofs.lemmas.Iterator.{YieldsList-from_slice}
+use Rattle.std.proofs.lemmas.Iterator.Consumers.{YieldsList-from_copied}
+use Rattle.std.proofs.lemmas.Iterator.Search.{find_from_yields_List}
+use Rattle.std.specs.List.{find}
+use Rattle.std.specs.Option.{option_map}
+use Rattle.task.specs.declared.data.Atom.{Atom}
+use Rattle.task.specs.Settings.{holding}
+use Rattle.task.proofs.Meets.{find_unmet}
 use Rattle.task.proofs.first_unmet.Goals as goal
 
-pub returns-then-not-holds : goal.returns-then-not-holds
-returns-then-not-holds c =
-    sym (cond-false _ _ _ (sym c.if-not-holds.ensures)) ∙ sym (at_drop_more (unmet c.args.setting) c.args.atoms.now c.loop-atom.atom-index _ c.loop-atom-test.true) ∙ c.loop-atom.invariant
-
-pub loop-atom-preserved : goal.loop-atom-preserved
-loop-atom-preserved c =
-    sym (cond-true _ _ _ (sym c.if-not-holds.ensures)) ∙ sym (at_drop_more (unmet c.args.setting) c.args.atoms.now c.loop-atom.atom-index _ c.loop-atom-test.true) ∙ c.loop-atom.invariant
-
 pub returns : goal.returns
-returns c = sym (at_drop_all (unmet c.args.setting) c.args.atoms.now c.loop-atom.atom-index c.loop-atom-test.false) ∙ c.loop-atom.invariant
+returns c =
+    let found : option_map (λ (x : Atom). x) c.find.result ≡ find (λ a. not (holding c.args.setting a)) c.args.atoms.now =
+    find_from_yields_List (λ a. not (holding c.args.setting a)) _ _ c.find.result c.find.ensures.ran (YieldsList-from_copied (YieldsList-from_slice c.args.atoms.now cc)) (λ x b q k. search rules) in
+    sym (option_map_id c.find.result) ∙ found ∙ find_unmet c.args.setting c.args.atoms.now

@@ -1,10 +1,5 @@
-use Rattle.std.proofs.Common.{is_some, sym, ap, ◌∙◌}
-use Rattle.task.specs.Settings.{listed, met, unmet}
-use Rattle.task.proofs.Meets.{met_unmet, not_same}
+use Rattle.task.proofs.Meets.{met_where_none}
 use Rattle.task.proofs.goal_holds.Goals as goal
 
 pub returns : goal.returns
-returns c =
-    let s = c.args.setting in
-    let atoms = listed c.args.task.now.goal in
-    not_same _ _ (sym c.is_none.ensures ∙ ap is_some (c.first_unmet.ensures ∙ ap (unmet s) c.list.ensures) ∙ met_unmet s atoms)
+returns c = met_where_none _ _ _ _ _ c.is_none.ensures c.first_unmet.ensures c.list.ensures

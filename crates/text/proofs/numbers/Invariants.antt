@@ -1,9 +1,9 @@
-use Rattle.std.proofs.Common.{◌≡◌, ◌+◌, ◌≤◌, cond, [], length, vec_items, vec_len}
-use Rattle.text.specs.Fields.{pieces, read_fields, numbers_on}
+use Rattle.std.proofs.Common.{◌≡◌, [], length, drop, vec_items, vec_len}
+use Rattle.text.specs.Fields.{pieces, read_fields}
 use Rattle.text.proofs.numbers.Given as goal
 
-abbrev pub invariant-loop-more : goal.invariant-loop-more
-invariant-loop-more l = (read_fields (vec_items l.sofar) (cond l.more (pieces 32 l.left) []) ≡ numbers_on l.line) × (vec_len l.sofar + length l.left ≤ length l.line)
-
-abbrev pub decreases-loop-more : goal.decreases-loop-more
-decreases-loop-more l = cond l.more (length l.left + 1) 0
+abbrev pub invariant-loop-field : goal.invariant-loop-field
+invariant-loop-field l = record {
+  read : read_fields (vec_items l.sofar) (drop (length l.yielded) (pieces 32 l.line)) ≡ read_fields [] (pieces 32 l.line);
+  count : vec_len l.sofar ≡ length l.yielded;
+}

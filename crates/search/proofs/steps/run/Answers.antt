@@ -1,28 +1,40 @@
-use Rattle.std.proofs.Common.{◌≡◌, ◌-◌, ◌≤◌, length, take, ap, ◌∙◌, arith}
-use borrow.Rule.Slice.PartMut.{post_of}
-use Rattle.std.proofs.lemmas.List.{length-take-le}
-use Rattle.search.proofs.Cuts.{lined_cut, lined_join}
+use Rattle.std.proofs.Common.{rules, ◌≡◌, List, unwrap_or, take, drop, sym, ap, ◌∙◌, subst}
+use Rattle.std.specs.Result.{result_err}
+use Rattle.rules.specs.Marks.{Zeros}
+use Rattle.search.specs.declared.data.Row.{Row}
+use Rattle.search.specs.declared.sizes.Progress.{Progress}
+use Rattle.search.specs.declared.sizes.Progress.TheVariants.{Going}
+use Rattle.search.specs.Steps.{State}
+use Rattle.search.specs.Lined.{Lined}
+use Rattle.search.specs.Counts.{outcome_of}
+use Rattle.search.proofs.Running.{stands_so}
 use Rattle.search.proofs.steps.run.Goals as goal
 
-pub returns : goal.returns
-returns g c =
+pub returns-clause-rest : goal.returns-clause-rest
+returns-clause-rest g c =
+    let u = c.run_steps-ended.new.self.sizes.used in
+    subst (λ x. drop u x ≡ drop u c.args.rows.now) (search rules) c.run_steps-ended.ensures.rest
+
+pub returns-clause-work : goal.returns-clause-work
+returns-clause-work g c = λ z. subst (λ x. Zeros (take 4096 x)) (search rules) (c.run_steps-ended.ensures.clear z)
+
+pub returns-clause-ran : goal.returns-clause-ran
+returns-clause-ran g c = λ start lawful sound lined.
     let K = g.T.Tariff.charges c.args.tariff.now in
-    let m = c.args.limits.capacity in
-    let whole : m - 0 ≡ m = omega arith in
-    let queue = c.args.queue.now in
-    let rows = take c.args.sizes.used c.args.rows.now in
-    let r = c.run_steps-ran.result in
-    let e = c.run_steps-ran.ensures in
-    let zs = c.run_steps-ran.new.queue in
-    let long : length zs ≡ m = c.run_steps-ran.auto.queue ∙ ap (λ k. length (take k queue)) whole ∙ length-take-le m queue c.requires.sized.3 in
-    let few : length rows ≤ m - 0 = omega (arith, length-take-le c.args.sizes.used c.args.rows.now (omega (arith, c.requires.sized.0, c.requires.sized.2)), c.requires.sized.0) in
-    record {
-      tallied = e.tallied;
-      ran = λ start lawful sound lined. e.ran start lawful sound (lined_cut K.le rows c.args.sizes.waiting queue (m - 0) few lined);
-      rest = e.rest;
-      lined = λ lined.
-          lined_join K.le (take r.sizes.used c.run_steps-ran.new.rows) r.sizes.waiting zs (post_of 0 (m - 0) queue) (omega (arith, e.tallied.within, e.tallied.waiting)) (e.lined (lined_cut K.le rows c.args.sizes.waiting queue (m - 0) few lined));
-      marks = c.clear_first.ensures.clear;
-      work = e.clear;
-      kept = (c.clear_first.ensures.rest ∙ e.kept.0, e.kept.1);
-    }
+    let new = c.run_steps-ended.new.self in
+    let u = new.sizes.used in
+    let n = new.expanded in
+    let y = c.run_steps-ended.result in
+    let stands = λ (x : List (Row g.row.T-Charge.Denot)) (p : Progress). (let st : State g.row.T-Charge.Denot = record { rows = take u x; count = n; outcome = outcome_of p } in st) in
+    let told : unwrap_or (result_err y) Going ≡ c.unwrap_or-progress.result = ap (λ o. unwrap_or o Going) (sym c.err.ensures.value) ∙ sym c.unwrap_or-progress.ensures in
+    c.run_steps-ended.ensures.ran start lawful sound lined
+    ∙ stands_so y (take u new.rows.now) n ∙ ap (stands new.rows.now) told ∙ ap (λ x. stands x c.unwrap_or-progress.result) (search rules)
+
+both : {X Y : Type 0} (P : X → Y → Type 0) {x x' : X} {y y' : Y} → x ≡ x' → y ≡ y' → P x y → P x' y'
+both {X} {Y} P {x} {x'} {y} {y'} e f p = subst (λ z. P z y') e (subst (P x) f p)
+
+pub returns-clause-lined : goal.returns-clause-lined
+returns-clause-lined g c = λ lined.
+    let K = g.T.Tariff.charges c.args.tariff.now in
+    let new = c.run_steps-ended.new.self in
+    both (λ x y. Lined K.le (take new.sizes.used x) new.sizes.waiting y) (search rules) (search rules) (c.run_steps-ended.ensures.lined lined)

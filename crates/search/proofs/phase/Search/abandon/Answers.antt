@@ -1,14 +1,7 @@
-use Rattle.std.proofs.Common.{refl, ap}
+use Rattle.std.proofs.Common.{ap}
 use Rattle.search.specs.Session.{abandoning, after}
-use Rattle.search.proofs.Promises.{promised}
+use Rattle.search.proofs.Sessions.{abandoned}
 use Rattle.search.proofs.phase.Search.abandon.Goals as goal
 
-pub returns : goal.returns
-returns g c = record {
-  task = refl;
-  promised = λ b K calls rows queue marks work lawful left. (
-    ap (λ p. (after b K p abandoning).1) left.is,
-    record { task = left.task; is = ap (λ p. (after b K p abandoning).0) left.is },
-    promised b K lawful _,
-  );
-}
+pub returns-clause-promised : goal.returns-clause-promised
+returns-clause-promised g c = λ b K calls t lawful left. abandoned b K calls lawful c.args.self.asked.task c.give_up.result left.task c.give_up.ensures (ap (λ p. after b K p abandoning) left.is)
