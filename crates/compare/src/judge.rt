@@ -1,10 +1,9 @@
 // Compares what the session and the rules answer with what the exhaustive search and the plain closure say.
 use crate::chance::Chance;
 use crate::made::{Made, setting};
-use crate::plain::{Cost, Costs, Prices, Small, Values, cheapest, closure, within};
+use crate::plain::{Cost, Costs, Prices, STEPS, Small, Values, cheapest, closure, within};
 use crate::runs::{End, Failure, Went};
 use rules::Rule;
-use std::alloc::{AllocError, Global};
 
 // Is the list a plan from the task's start at this cost, and was each remainder the cost of what followed?
 fn is_plan<P: Prices>(small: &Small, prices: &P, plan: &[Went], cost: Cost) -> bool {
@@ -50,27 +49,21 @@ pub(crate) fn ended_rightly<P: Prices>(
 
 // Does the rule mark these actions, whatever marks and work held, and leave the work bytes zero?
 pub(crate) fn marks_so<R: Rule>(
-    alloc: Global,
     rule: &R,
     small: &Small,
     made: &Made,
     values: Values,
     chance: &mut Chance,
-) -> Result<bool, AllocError> {
-    let expected = closure(alloc, small, values)?;
+) -> bool {
+    let expected = closure(small, values);
     let dirt = chance.below(3) as u8;
-    let mut marks = vec![in alloc; dirt; small.steps.len()]?;
+    let mut places = [dirt; STEPS];
+    let marks = &mut places[..small.steps.len()];
     let mut work = [dirt; 4096];
-    rule.mark(
-        &made.task,
-        &made.table,
-        setting(values),
-        &mut marks,
-        &mut work,
-    );
+    rule.mark(&made.task, &made.table, setting(values), marks, &mut work);
     let marked = marks
         .iter()
         .zip(&expected)
         .all(|(mark, called)| *mark == u8::from(*called));
-    Ok(marked && work.iter().all(|byte| *byte == 0))
+    marked && work.iter().all(|byte| *byte == 0)
 }

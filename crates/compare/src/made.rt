@@ -1,7 +1,7 @@
 // Small tasks of many shapes, and the same as the planner's data.
 use crate::chance::Chance;
 use crate::plain::{Partial, STEPS, Small, Step, Values};
-use std::alloc::{AllocError, Global};
+use arrayvec::ArrayVec;
 use task::{Action, Atom, Atoms, Setting, Task};
 
 // What a made task is like: an atom stands in one of so many places, and charges lie below a number.
@@ -89,34 +89,42 @@ fn some_sizes(chance: &mut Chance) -> Values {
     sizes
 }
 
+// These steps as a list.
+fn list_of(steps: &[Step]) -> ArrayVec<Step, STEPS> {
+    let mut list = ArrayVec::new();
+    // They fit: no more than STEPS are drawn.
+    let _fits = list.try_extend_from_slice(steps);
+    list
+}
+
 // A task of up to eight actions; its first variable has at least two values.
-pub(crate) fn some_task(alloc: Global, chance: &mut Chance) -> Result<Small, AllocError> {
+pub(crate) fn some_task(chance: &mut Chance) -> Small {
     let shape = some_shape(chance);
     let sizes = some_sizes(chance);
     let start = some_values(chance, sizes);
     let goal = some_partial(chance, sizes, shape.goals);
     // A step that is drawn and left: without it every later draw, and so every task, would be another.
     some_step(chance, sizes, shape);
-    let mut steps = Vec::new(alloc);
-    for _ in 0..STEPS {
-        steps.push(some_step(chance, sizes, shape))?;
+    let mut drawn = [Step::default(); STEPS];
+    for step in drawn.iter_mut() {
+        *step = some_step(chance, sizes, shape);
     }
     let count = chance.below(STEPS as u32 + 1) as usize;
-    let spare = steps.split_off(count.min(steps.len()))?;
-    Ok(Small {
+    let (steps, spare) = drawn.split_at(count.min(STEPS));
+    Small {
         sizes,
-        steps,
-        spare,
+        steps: list_of(steps),
+        spare: list_of(spare),
         goal,
         start,
-    })
+    }
 }
 
 // The planner's task and its table of actions.
-#[derive(Drop)]
+#[derive(Clone, Copy)]
 pub(crate) struct Made {
     pub(crate) task: Task,
-    pub(crate) table: Vec<Action>,
+    pub(crate) table: [Action; STEPS],
 }
 
 fn atoms<const N: usize>(partial: Partial) -> Atoms<N> {
@@ -145,18 +153,17 @@ pub(crate) fn setting(values: Values) -> Setting {
     all
 }
 
-pub(crate) fn task_of(alloc: Global, small: &Small) -> Result<Made, AllocError> {
-    let table = small
-        .steps
-        .iter()
-        .chain(&small.spare)
-        .map(action)
-        .collect(alloc)?;
+pub(crate) fn task_of(small: &Small) -> Made {
+    let mut table = [Action::default(); STEPS];
+    let steps = small.steps.iter().chain(&small.spare);
+    for (place, step) in table.iter_mut().zip(steps) {
+        *place = action(step);
+    }
     let task = Task {
         variables: 4,
         sizes: setting(small.sizes),
         actions: small.steps.len().min(STEPS),
         goal: atoms(small.goal),
     };
-    Ok(Made { task, table })
+    Made { task, table }
 }

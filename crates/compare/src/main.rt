@@ -9,7 +9,6 @@ use made::{Made, setting, some_task, some_values, task_of};
 use plain::{Cost, Costs, SETTINGS, Small, cheapest, exhaust};
 use rules::{Actions, All, Atoms, Rule};
 use runs::{Billed, End, Failure, Planner};
-use std::alloc::{AllocError, Global};
 use tariff::{Presses, Time};
 
 mod chance;
@@ -97,7 +96,6 @@ struct Case {
 // The comparison so far.
 #[derive(Drop)]
 struct Comparison {
-    alloc: Global,
     chance: Chance,
     tally: Tally,
 }
@@ -120,7 +118,7 @@ impl Comparison {
             SETTINGS
         };
         let start = setting(small.start);
-        let ended = planner.search(self.alloc, rule, &case.made, start, bound, places, chance);
+        let ended = planner.search(rule, &case.made, start, bound, places, chance);
         self.tally.ended(&ended);
         let right = ended_rightly(small, &planner.tariff, costs, bound, places, &ended);
         self.tally.judge(right);
@@ -135,58 +133,55 @@ impl Comparison {
     }
 
     // The task's marks by both rules, in its start and in a setting of chance.
-    fn markings(&mut self, case: &Case) -> Result<(), AllocError> {
+    fn markings(&mut self, case: &Case) {
         let Case { small, made } = case;
         let mut values = small.start;
         for _ in 0..2 {
             self.tally.markings = self.tally.markings.saturating_add(2);
-            let by_actions = marks_so(self.alloc, &Actions, small, made, values, &mut self.chance)?;
+            let by_actions = marks_so(&Actions, small, made, values, &mut self.chance);
             self.tally.judge(by_actions);
-            let by_atoms = marks_so(self.alloc, &Atoms, small, made, values, &mut self.chance)?;
+            let by_atoms = marks_so(&Atoms, small, made, values, &mut self.chance);
             self.tally.judge(by_atoms);
             values = some_values(&mut self.chance, small.sizes);
         }
-        Ok(())
     }
 
-    // The task's book, whole and damaged.
-    fn books(&mut self, case: &Case) -> Result<(), AllocError> {
-        let Some(book) = book_of(self.alloc, &case.made)? else {
+    // The task's book, whole and damaged. The table that it is read into holds the first action, which has effects.
+    fn books(&mut self, made: &Made) {
+        let Some(book) = book_of(made) else {
             self.tally.judge(false);
-            return Ok(());
+            return;
         };
-        self.tally.read(reread(&book));
+        let held = made.table[0];
+        self.tally.read(reread(&book, held));
         for _ in 0..DAMAGES {
-            let hurt = damaged(self.alloc, &book, &mut self.chance)?;
-            self.tally.read(reread(&hurt));
+            let hurt = damaged(&book, &mut self.chance);
+            self.tally.read(reread(&hurt, held));
         }
-        Ok(())
     }
 
     // Makes the tasks, and compares.
-    fn tasks(&mut self) -> Result<(), AllocError> {
+    fn tasks(&mut self) {
         let mut by_time = Planner::new(Time);
         let mut by_presses = Planner::new(Presses);
         for _ in 0..TASKS {
-            let small = some_task(self.alloc, &mut self.chance)?;
-            let made = task_of(self.alloc, &small)?;
+            let small = some_task(&mut self.chance);
+            let made = task_of(&small);
             let case = Case { small, made };
             self.searches(&mut by_time, &case);
             self.searches(&mut by_presses, &case);
-            self.markings(&case)?;
-            self.books(&case)?;
+            self.markings(&case);
+            self.books(&case.made);
         }
-        Ok(())
     }
 }
 
 fn run(rt: &HostRuntime) -> anyhow::Result<()> {
     let mut comparison = Comparison {
-        alloc: rt.alloc(),
         chance: Chance::new(20),
         tally: Tally::default(),
     };
-    comparison.tasks()?;
+    comparison.tasks();
     told(rt, comparison.tally)
 }
 

@@ -2,7 +2,7 @@
 // point over all settings that can be reached. Nothing of the planner is used here.
 ghost use Rattle.std.specs.Prelude.{◌<◌};
 
-use std::alloc::{AllocError, Global};
+use arrayvec::ArrayVec;
 
 // A value for each of four variables.
 pub(crate) type Values = [u8; 4];
@@ -14,7 +14,7 @@ pub(crate) const STEPS: usize = 8;
 pub(crate) const SETTINGS: usize = 256;
 
 // Values for some of the four variables: the conditions or the effects of a step, or a goal.
-#[derive(Clone, Copy)]
+#[derive(Clone, Copy, Default)]
 pub(crate) struct Partial {
     pub(crate) values: [Option<u8>; 4],
 }
@@ -43,7 +43,7 @@ impl Partial {
     }
 }
 
-#[derive(Clone, Copy)]
+#[derive(Clone, Copy, Default)]
 pub(crate) struct Step {
     pub(crate) conditions: Partial,
     pub(crate) effects: Partial,
@@ -66,8 +66,8 @@ impl Step {
 #[derive(Drop)]
 pub(crate) struct Small {
     pub(crate) sizes: Values,
-    pub(crate) steps: Vec<Step>,
-    pub(crate) spare: Vec<Step>,
+    pub(crate) steps: ArrayVec<Step, STEPS>,
+    pub(crate) spare: ArrayVec<Step, STEPS>,
     pub(crate) goal: Partial,
     pub(crate) start: Values,
 }
@@ -177,39 +177,27 @@ fn calls(member: &Step, other: &Step, values: Values) -> bool {
 }
 
 // The members, and each step that a member calls for.
-fn grown(
-    alloc: Global,
-    steps: &[Step],
-    members: &[bool],
-    values: Values,
-) -> Result<Vec<bool>, AllocError> {
-    steps
-        .iter()
-        .zip(members)
-        .map(|(other, is_in)| {
-            *is_in
-                || steps
-                    .iter()
-                    .zip(members)
-                    .any(|(member, called)| *called && calls(member, other, values))
-        })
-        .collect(alloc)
+fn grown(steps: &[Step], members: [bool; STEPS], values: Values) -> [bool; STEPS] {
+    let mut next = members;
+    for (is_in, other) in next.iter_mut().zip(steps) {
+        let mut all = steps.iter().zip(&members);
+        if all.any(|(member, called)| *called && calls(member, other, values)) {
+            *is_in = true;
+        }
+    }
+    next
 }
 
-// The smallest closed set in a setting: as many rounds of adding what the members call for as there are steps.
-pub(crate) fn closure(
-    alloc: Global,
-    small: &Small,
-    values: Values,
-) -> Result<Vec<bool>, AllocError> {
+// The smallest closed set in a setting: as many rounds of adding what the members call for as there are steps. No
+// place past the last step is marked.
+pub(crate) fn closure(small: &Small, values: Values) -> [bool; STEPS] {
     let unmet = small.goal.missing(values);
-    let mut members: Vec<bool> = small
-        .steps
-        .iter()
-        .map(|step| unmet.is_some_and(|v| step.effects.at(v) == small.goal.at(v)))
-        .collect(alloc)?;
-    for _ in &small.steps {
-        members = grown(alloc, &small.steps, &members, values)?;
+    let mut members = [false; STEPS];
+    for (is_in, step) in members.iter_mut().zip(&small.steps) {
+        *is_in = unmet.is_some_and(|v| step.effects.at(v) == small.goal.at(v));
     }
-    Ok(members)
+    for _ in &small.steps {
+        members = grown(&small.steps, members, values);
+    }
+    members
 }

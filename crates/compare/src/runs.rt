@@ -2,12 +2,12 @@
 use crate::chance::Chance;
 use crate::made::Made;
 use crate::plain::{Cost, Prices, SETTINGS, STEPS, Step};
+use arrayvec::ArrayVec;
 use rules::Rule;
 use search::{
     Advanced, Ended, Entry, Refused, Rest, Row, Search, Tables, Taken, Waiting, advance, begin,
     take,
 };
-use std::alloc::Global;
 use std::ops::ControlFlow;
 use tariff::{Pressed, Presses, Tariff, Time};
 use task::{Action, Setting};
@@ -68,7 +68,7 @@ impl Billed for Presses {
 }
 
 // An action that was taken, and the cost of what remained.
-#[derive(Clone, Copy)]
+#[derive(Clone, Copy, Default)]
 pub(crate) struct Went {
     pub(crate) action: usize,
     pub(crate) remaining: Cost,
@@ -77,7 +77,7 @@ pub(crate) struct Went {
 // How a search ended: with a plan's cost and its actions, with no plan, with no row left.
 #[derive(Drop)]
 pub(crate) enum End {
-    Found(Cost, Vec<Went>),
+    Found(Cost, ArrayVec<Went, SETTINGS>),
     NoPlan,
     Full,
 }
@@ -87,19 +87,17 @@ pub(crate) enum End {
 pub(crate) enum Failure {
     Refused,
     Endless,
-    Memory,
 }
 
 // Takes the plan's actions one by one, and gives the search up; the last Take is refused.
 fn take_all<B: Billed>(
-    alloc: Global,
     tariff: &B,
     actions: &[Action],
     plan: &[u16],
     ended: Ended<B::Charge>,
-) -> Result<Vec<Went>, Failure> {
+) -> ArrayVec<Went, SETTINGS> {
     let mut phase = ended;
-    let mut went = Vec::new(alloc);
+    let mut went = ArrayVec::new();
     for _ in 0..SETTINGS {
         match take(tariff, actions, plan, phase) {
             Ok(taken) => {
@@ -111,25 +109,22 @@ fn take_all<B: Billed>(
                 let remaining = tariff.cost_of(remaining);
                 let action = action as usize;
                 phase = ended;
-                if went.push(Went { action, remaining }).is_err() {
-                    let _ = phase.abandon().into_task();
-                    return Err(Failure::Memory);
-                }
+                // It fits: there are no more rounds than places.
+                let _fits = went.try_push(Went { action, remaining });
             }
             Err(refused) => {
                 let Refused { phase, refusal: _ } = refused;
                 let _ = phase.abandon().into_task();
-                return Ok(went);
+                return went;
             }
         }
     }
     let _ = phase.abandon().into_task();
-    Ok(went)
+    went
 }
 
 // What an Advance came to: the search goes on, or is over.
 fn outcome<B: Billed>(
-    alloc: Global,
     tariff: &B,
     actions: &[Action],
     plan: &[u16],
@@ -139,8 +134,8 @@ fn outcome<B: Billed>(
         Advanced::Working(search, _) => ControlFlow::Continue(search),
         Advanced::Found(ended, charge, _) => {
             let cost = tariff.cost_of(charge);
-            let went = take_all(alloc, tariff, actions, plan, ended);
-            ControlFlow::Break(went.map(|went| End::Found(cost, went)))
+            let went = take_all(tariff, actions, plan, ended);
+            ControlFlow::Break(Ok(End::Found(cost, went)))
         }
         Advanced::NoPlan(ended, _) => {
             let _ = ended.abandon().into_task();
@@ -189,7 +184,6 @@ impl<B: Billed> Planner<B> {
     // Advances a search by chance amounts of steps until it ends. Its parameters are those of `search`.
     fn run_out<R: Rule>(
         &mut self,
-        alloc: Global,
         rule: &R,
         made: &Made,
         begun: Search<B::Charge>,
@@ -209,7 +203,7 @@ impl<B: Billed> Planner<B> {
             let steps = chance.below(6) as usize;
             match advance(&self.tariff, rule, &made.table, search, lent, steps) {
                 Ok(advanced) => {
-                    match outcome(alloc, &self.tariff, &made.table, &self.plan, advanced) {
+                    match outcome(&self.tariff, &made.table, &self.plan, advanced) {
                         ControlFlow::Continue(next) => search = next,
                         ControlFlow::Break(end) => return end,
                     }
@@ -228,7 +222,6 @@ impl<B: Billed> Planner<B> {
     // One search of the task from the start, over the first rows. Each parameter is another at each call.
     pub(crate) fn search<R: Rule>(
         &mut self,
-        alloc: Global,
         rule: &R,
         made: &Made,
         start: Setting,
@@ -249,7 +242,7 @@ impl<B: Billed> Planner<B> {
             work: &mut self.work,
         };
         match begin(&self.tariff, Rest::new(made.task), lent, start, charge) {
-            Ok(search) => self.run_out(alloc, rule, made, search, places, chance),
+            Ok(search) => self.run_out(rule, made, search, places, chance),
             Err(refused) => {
                 let Refused { phase, refusal: _ } = refused;
                 let _ = phase.into_task();

@@ -1,8 +1,9 @@
 -- Values of a setting, field by field.
-use Rattle.std.proofs.Common.{◌≡◌, ℕ, suc, ◌+◌, ◌-◌, ◌<◌, Bool, true, false, not, List, [], ◌∷◌, ◌++◌, length, set, is_some, Some, None, Option, MatchOption, sym, ap, ◌∙◌, arith, Bor}
-use Rattle.std.specs.Bool.{then_some}
+use Rattle.std.proofs.Common.{◌≡◌, ℕ, suc, ◌+◌, ◌-◌, ◌<◌, Bool, true, false, List, [], ◌∷◌, ◌++◌, length, set, Some, Option, refl, sym, ap, ◌∙◌, arith}
+use Rattle.std.specs.Bool.{Decides, then_some}
 use Rattle.std.proofs.lemmas.List.{set-append_left}
-use Rattle.console.specs.Commands.{then, small, values}
+use Rattle.console.specs.declared.command.Command.{Command}
+use Rattle.console.specs.Commands.{then, small, values, alone}
 
 one : (n m v : ℕ) (s field : List ℕ) (more : List (List ℕ)) → n ≡ suc m → values n v s (field ∷ more) ≡ then (small field) (λ x. values m (v + 1) (set s v x) more)
 one n m v s field more e = ap (λ k. values k v s (field ∷ more)) e
@@ -14,8 +15,13 @@ one_value count v front rest fields whole is within long field more e x o =
     ap (λ s. values (count - (v + 1)) (v + 1) s more) (sym (set-append_left front rest v x within_front)) ∙ ap (λ r. then r (λ x. values (count - (v + 1)) (v + 1) (set (front ++ rest) v x) more)) o ∙ sym (one (count - v) (count - (v + 1)) v (front ++ rest) field more (omega arith)) ∙ ap (values (count - v) v (front ++ rest)) (sym e) ∙ is
 
 -- no field is left after the last value
-pub all_read : (v : ℕ) (s : List ℕ) (fields more : List (List ℕ)) (next : Option (Bor (List ℕ))) (bare : Bool) → MatchOption next ((fields ≡ []) × (more ≡ [])) (λ x. fields ≡ x.now ∷ more) → is_some next ≡ not bare → then_some bare s ≡ values 0 v s fields
-all_read v s fields more None true h e = sym (ap (values 0 v s) h.0)
-all_read v s fields more None false h e = absurd (let z : ◌≡◌ {A = ℕ} 0 1 = cc in omega arith)
-all_read v s fields more (Some x) true h e = absurd (let z : ◌≡◌ {A = ℕ} 0 1 = cc in omega arith)
-all_read v s fields more (Some x) false h e = sym (ap (values 0 v s) h)
+pub all_read : (v : ℕ) (s : List ℕ) (fields : List (List ℕ)) (bare : Bool) → Decides bare (fields ≡ []) → then_some bare s ≡ values 0 v s fields
+all_read v s [] bare d = ap (λ b. then_some b s) (d.1 refl)
+all_read v s (field ∷ more) true d = absurd (let z : ◌≡◌ {A = ℕ} 0 1 = (let e = d.0 refl in cc) in omega arith)
+all_read v s (field ∷ more) false d = refl
+
+-- nothing else is on the line
+pub alone_read : (c : Command) (fields : List (List ℕ)) (bare : Bool) → Decides bare (fields ≡ []) → then_some bare c ≡ alone c fields
+alone_read c [] bare d = ap (λ b. then_some b c) (d.1 refl)
+alone_read c (field ∷ more) true d = absurd (let z : ◌≡◌ {A = ℕ} 0 1 = (let e = d.0 refl in cc) in omega arith)
+alone_read c (field ∷ more) false d = refl

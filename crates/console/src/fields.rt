@@ -1,4 +1,5 @@
 // What is left of a line, field by field.
+ghost use Rattle.std.specs.Prelude.{◌≡◌, [], Decides};
 ghost use Rattle.std.specs.Iterator.{YieldsFirstRef, item_count};
 ghost use Rattle.console.specs.Left.{remaining};
 
@@ -8,6 +9,16 @@ use text::cut;
 #[derive(Clone, Copy)]
 pub(crate) struct Fields<'a> {
     pub(crate) left: Option<&'a [u8]>,
+}
+
+impl Fields<'_> {
+    // Is no field left? The next one is not looked at, however long it is.
+    #[tactic(auto, using(crate::proofs::Lefts::none_left))]
+    pub(crate) fn is_empty(&self) -> bool
+        ensures { Decides result (remaining self.now ≡ []) }
+    {
+        self.left.is_none()
+    }
 }
 
 impl<'a> Iterator for Fields<'a> {

@@ -25,7 +25,7 @@ fn setting_of(mut fields: Fields, count: usize) -> Option<Setting>
     for value in setting[..count].iter_mut() {
         *value = small_number(fields.next()?)?;
     }
-    fields.next().is_none().then_some(setting)
+    fields.is_empty().then_some(setting)
 }
 
 // A bound, and a value for each variable.
@@ -47,10 +47,11 @@ fn advance_of(mut fields: Fields) -> Option<Command>
 }
 
 // The command, if nothing else is on the line.
-fn bare(command: Command, mut fields: Fields) -> Option<Command>
+#[tactic(auto, using(crate::proofs::Values::alone_read))]
+fn bare(command: Command, fields: Fields) -> Option<Command>
     ensures { result ≡ alone command (remaining fields.entry) }
 {
-    fields.next().is_none().then_some(command)
+    fields.is_empty().then_some(command)
 }
 
 // What the line asks of the bench, if it fits.

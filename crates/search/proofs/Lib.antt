@@ -3,6 +3,7 @@ pub mod RowFacts
 pub mod Traces
 pub mod Invariant
 pub mod Expansion
+pub mod Cuts
 pub mod Ends
 pub mod Advances
 pub mod Benches

@@ -33,6 +33,15 @@ pub(crate) struct Open<'t, 'r, 'q, 'l, T: Tariff> {
     ghost counted: { expanded + sizes.waiting ≡ sizes.used },
 }
 
+// The row number, if it is of a used row; else the first: a foreign table may name any.
+fn within(row: u16, used: usize) -> u16
+    requires { 0 < used }
+    ensures low { result < used }
+    ensures same { row < used → result ≡ row }
+{
+    if usize::from(row) < used { row } else { 0 }
+}
+
 impl<T: Tariff> Open<'_, '_, '_, '_, T> {
     // The number of the used row with this setting, if there is one.
     fn find(&self, setting: Setting) -> Option<usize>
@@ -192,8 +201,7 @@ impl<T: Tariff> Open<'_, '_, '_, '_, T> {
             return None;
         }
         let first = waiting_at(self.table, 0);
-        // A foreign table may name a row past the used ones.
-        let row = first.row.min((self.sizes.used - 1) as u16);
+        let row = within(first.row, self.sizes.used);
         let held = self.rows[row as usize];
         let setting = held.setting;
         Some(Source {

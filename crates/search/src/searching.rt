@@ -58,8 +58,18 @@ pub fn advance<T: Tariff, R: Rule>(
         marks,
         work,
     } = tables;
+    // The queue as far as the rows go: an entry of a foreign table may name any row, and its place is noted.
+    let capacity = search.asked.limits.capacity;
     let ran = run(
-        tariff, rule, &search, actions, rows, queue, marks, work, steps,
+        tariff,
+        rule,
+        &search,
+        actions,
+        rows,
+        &mut queue[..capacity],
+        marks,
+        work,
+        steps,
     );
     let Search {
         asked,

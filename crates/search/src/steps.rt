@@ -70,7 +70,9 @@ pub(crate) fn clear_first(bytes: &mut [u8], count: usize)
 }
 
 impl<T: Tariff> Open<'_, '_, '_, '_, T> {
-    // Tries one action from the source, if it is marked and applicable.
+    // Tries one action from the source, if it is marked and applicable. Inlined: most actions of a sweep are not, and
+    // to be called for each of them costs more than to test it.
+    #[inline(always)]
     fn try_action(
         &mut self,
         source: Source<T::Charge>,
@@ -84,14 +86,14 @@ impl<T: Tariff> Open<'_, '_, '_, '_, T> {
         ensures lined { Lined (T.charges self.old.tariff.now).le (take self.old.sizes.used self.old.rows.now) self.old.sizes.waiting self.old.table.now → Lined (T.charges self.old.tariff.now).le (take self.new.sizes.used self.new.rows.now) self.new.sizes.waiting self.new.table.now }
         ensures kept { SameTable self.old.rows self.new.rows × SameTable self.old.table self.new.table × (self.new.tariff ≡ self.old.tariff) × (self.new.limits ≡ self.old.limits) }
     {
-        let setting = source.setting;
-        if !is_offered(mark, action, setting) {
+        if !is_offered(mark, action, source.setting) {
             return Ok(());
         }
         self.relax(source, number, action)
     }
 
     // Tries each offered action from the source, in the order of their numbers, until no row is left for one.
+    #[inline(never)]
     fn sweep<R: Rule>(&mut self, marker: &Marker<R>, source: Source<T::Charge>) -> Result<(), Full>
         ensures rows { (start : List ℕ) → Addable (problem (bench_of marker.now.task.now marker.now.actions.now) (T.charges self.old.tariff.now) (posed start self.old.limits.now)) source.charge → swept result (take self.new.sizes.used self.new.rows.now) ≡ sweep (problem (bench_of marker.now.task.now marker.now.actions.now) (T.charges self.old.tariff.now) (posed start self.old.limits.now)) (byte_marked marker.now.marks.now) source.row source.setting source.charge (take self.old.sizes.used self.old.rows.now) marker.now.task.now.actions }
         ensures grew { Grew self.old.limits.now.capacity 0 self.old.sizes self.new.sizes }
@@ -113,11 +115,11 @@ impl<T: Tariff> Open<'_, '_, '_, '_, T> {
         marker: &mut Marker<R>,
         source: Source<T::Charge>,
     ) -> Result<(), Full>
-        requires { FirstIn self.old.rows.now self.old.table.now self.old.sizes source }
-        ensures rows { (start : List ℕ) → Lawful (bench_of marker.old.task.now marker.old.actions.now) → SettingOf (bench_of marker.old.task.now marker.old.actions.now) source.setting → Addable (problem (bench_of marker.old.task.now marker.old.actions.now) (T.charges self.old.tariff.now) (posed start self.old.limits.now)) source.charge → swept result (take self.new.sizes.used self.new.rows.now) ≡ expand (problem (bench_of marker.old.task.now marker.old.actions.now) (T.charges self.old.tariff.now) (posed start self.old.limits.now)) ((R.marking marker.old.rule.now).marks (bench_of marker.old.task.now marker.old.actions.now)) (take self.old.sizes.used self.old.rows.now) source.row }
+        requires { (0 < self.old.sizes.waiting) × (source.row < self.old.sizes.used) }
+        ensures rows { (start : List ℕ) → FirstIn self.old.rows.now self.old.table.now self.old.sizes source → Lawful (bench_of marker.old.task.now marker.old.actions.now) → SettingOf (bench_of marker.old.task.now marker.old.actions.now) source.setting → Addable (problem (bench_of marker.old.task.now marker.old.actions.now) (T.charges self.old.tariff.now) (posed start self.old.limits.now)) source.charge → swept result (take self.new.sizes.used self.new.rows.now) ≡ expand (problem (bench_of marker.old.task.now marker.old.actions.now) (T.charges self.old.tariff.now) (posed start self.old.limits.now)) ((R.marking marker.old.rule.now).marks (bench_of marker.old.task.now marker.old.actions.now)) (take self.old.sizes.used self.old.rows.now) source.row }
         ensures grew { Grew self.old.limits.now.capacity 1 self.old.sizes self.new.sizes }
         ensures rest { drop self.new.sizes.used self.new.rows.now ≡ drop self.new.sizes.used self.old.rows.now }
-        ensures lined { Lined (T.charges self.old.tariff.now).le (take self.old.sizes.used self.old.rows.now) self.old.sizes.waiting self.old.table.now → Lined (T.charges self.old.tariff.now).le (take self.new.sizes.used self.new.rows.now) self.new.sizes.waiting self.new.table.now }
+        ensures lined { FirstIn self.old.rows.now self.old.table.now self.old.sizes source → Lined (T.charges self.old.tariff.now).le (take self.old.sizes.used self.old.rows.now) self.old.sizes.waiting self.old.table.now → Lined (T.charges self.old.tariff.now).le (take self.new.sizes.used self.new.rows.now) self.new.sizes.waiting self.new.table.now }
         ensures kept { SameTable self.old.rows self.new.rows × SameTable self.old.table self.new.table × (self.new.tariff ≡ self.old.tariff) × (self.new.limits ≡ self.old.limits) }
         ensures clear { Zeros (take 4096 marker.new.work.now) }
         ensures beyond { (drop marker.old.task.now.actions marker.new.marks.now ≡ drop marker.old.task.now.actions marker.old.marks.now) × (drop 4096 marker.new.work.now ≡ drop 4096 marker.old.work.now) }

@@ -135,7 +135,9 @@ pub fn holds(setting: Setting, atom: Atom) -> bool
 pub fn first_unmet(setting: Setting, atoms: &[Atom]) -> Option<Atom>
     ensures { result ≡ unmet setting atoms.now }
 {
-    atoms.iter().copied().find(|atom| !holds(setting, *atom))
+    // By the value: `holds` is handed a setting by value, and would copy it for each atom.
+    let mut all = atoms.iter().copied();
+    all.find(|atom| setting.get(atom.variable as usize).copied().unwrap_or(0) != atom.value)
 }
 
 // Do all of the action's conditions hold?
@@ -216,7 +218,8 @@ fn size_of(task: &Task, variable: usize) -> u8
 pub fn achieves(action: &Action, atom: Atom) -> bool
     ensures { result ≡ achieving (act_of action.now) atom }
 {
-    action.effects.list().contains(&atom)
+    // Not by `contains`: over items of two bytes that looks at a whole block where the first may do.
+    action.effects.list().iter().any(|effect| *effect == atom)
 }
 
 // The lowest variable whose value lies outside the bench: not below its number of values, or not 0 past

@@ -1,4 +1,4 @@
-use Rattle.std.proofs.Common.{◌≤◌, length, take, drop, Some, sym, ap, ◌∙◌, subst, arith}
+use Rattle.std.proofs.Common.{◌≤◌, ◌++◌, length, take, drop, Some, sym, ap, ◌∙◌, subst, arith}
 use Rattle.std.proofs.lemmas.List.{length-take-le}
 use Rattle.task.specs.Benches.{bench_of}
 use Rattle.search.specs.declared.checks.Lengths.{Lengths}
@@ -8,6 +8,7 @@ use Rattle.search.specs.Counts.{state_of}
 use Rattle.search.specs.Left.{lent, on_entry, many, quest, Written, plan_found}
 use Rattle.search.specs.Conclusions.{Concluded}
 use Rattle.search.proofs.Advancings.{later, stood, went_so, listed_so, kept_past}
+use Rattle.search.proofs.Cuts.{lined_cut, lined_join}
 use Rattle.search.proofs.Promises.{promised}
 use Rattle.search.proofs.Sessions.{advance_by}
 use Rattle.search.proofs.searching.advance.Goals as goal
@@ -43,13 +44,19 @@ returns g c =
     let used = take r.sizes.used rows' in
     let room : r.sizes.used ≤ length rows' = omega (arith, e.tallied.within, lent_rows, c.run-ran.auto.rows) in
     let x = c.conclude.result in
+    let cap = s.asked.limits.capacity in
+    let old = take s.sizes.used t.rows.now in
+    let few : length old ≤ cap = omega (arith, length-take-le s.sizes.used t.rows.now (omega (arith, s.numbers, lent_rows)), s.numbers) in
+    let behind = drop cap t.queue.now in
+    let zs = c.run-ran.new.queue in
+    let waits : r.sizes.waiting ≤ length zs = omega (arith, e.tallied.within, e.tallied.waiting, c.run-ran.auto.queue, length-take-le cap t.queue.now lent_queue) in
     let done : Concluded K.zero K.le s.asked r used t.plan.now plan' x = c.conclude.ensures in
     record {
       promised = λ b calls lawful lent left.
-          let w = stood b K lawful calls s (on_entry t) left lent_rows lent_queue k m (state_of r rows') (bench_of s.asked.task table) (lent space.0) (e.ran s.asked.start) in
-          went_so b K lawful calls s left.held left.task left.is k m l r t.plan.now (record { rows = rows'; queue = c.run-ran.new.queue; plan = plan'; marks = c.run-ran.new.marks; work = c.run-ran.new.work }) (c.in_default.ensures.refused b left.task ∙ ap (advance_fault b s.asked.limits.capacity) (ap (many (length table)) c.lengths.ensures)) w.0 room (e.lined w.1) e.marks (e.work (left.in_work lent_work)) x done;
+          let w = stood b K lawful calls s (on_entry t) left lent_rows lent_queue k m (state_of r rows') (bench_of s.asked.task table) (lent space.0) (λ proper sound lined. e.ran s.asked.start proper sound (lined_cut K.le old s.sizes.waiting t.queue.now cap few lined)) in
+          went_so b K lawful calls s left.held left.task left.is k m l r t.plan.now (record { rows = rows'; queue = zs ++ behind; plan = plan'; marks = c.run-ran.new.marks; work = c.run-ran.new.work }) (c.in_default.ensures.refused b left.task ∙ ap (advance_fault b s.asked.limits.capacity) (ap (many (length table)) c.lengths.ensures)) w.0 room (lined_join K.le used r.sizes.waiting zs behind waits (e.lined (lined_cut K.le old s.sizes.waiting t.queue.now cap few w.1))) e.marks (e.work (left.in_work lent_work)) x done;
       tables = λ b calls lawful lent left.
-          let w = stood b K lawful calls s (on_entry t) left lent_rows lent_queue k m (state_of r rows') (bench_of s.asked.task table) (lent space.0) (e.ran s.asked.start) in
+          let w = stood b K lawful calls s (on_entry t) left lent_rows lent_queue k m (state_of r rows') (bench_of s.asked.task table) (lent space.0) (λ proper sound lined. e.ran s.asked.start proper sound (lined_cut K.le old s.sizes.waiting t.queue.now cap few lined)) in
           let long = length-take-le r.sizes.used rows' room in
           record {
             in_rows = subst (λ (st : State g.row.T-Charge.Denot). Written st.rows t.rows.now rows') (sym w.0) (record { first = ap (λ n. take n rows') long; rest = ap (λ n. drop n rows') long ∙ e.rest ∙ ap (λ n. drop n t.rows.now) (sym long) });

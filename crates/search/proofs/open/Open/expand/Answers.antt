@@ -18,7 +18,7 @@ returns g c =
     let i = s.row in
     let n = o.sizes.used in
     let rows = o.rows.now in
-    let f = c.requires in
+    let q = c.requires in
     let one = c.close_first.new.self in
     let two = c.mark.new.self in
     let new = c.sweep.new.self in
@@ -37,18 +37,18 @@ returns g c =
     ) in
     let d = blank K.zero K.le in
     let held = row K.zero K.le (take n rows) i in
-    let is : held ≡ get_or rows i d = get_or-take n rows i d f.low in
+    let is : held ≡ get_or rows i d = get_or-take n rows i d q.1 in
     let front : take one.sizes.used one.rows.now ≡ set (take n rows) i (shut held) =
-    ap (λ j. take j one.rows.now) x.used ∙ ap (take n) (x.rows d) ∙ take-set-lt n rows i (shut (get_or rows i d)) f.low ∙ ap (λ z. set (take n rows) i (shut z)) (sym is) in
+    ap (λ j. take j one.rows.now) x.used ∙ ap (take n) (x.rows d) ∙ take-set-lt n rows i (shut (get_or rows i d)) q.1 ∙ ap (λ z. set (take n rows) i (shut z)) (sym is) in
     record {
-      rows = λ start lawful proper few.
+      rows = λ start f lawful proper few.
           spread.rows_are start few
           ∙ ap (λ l. sweep (problem b K (posed start o.limits.now)) (byte_marked two.marks.now) i s.setting s.charge l m.task.now.actions) front
           ∙ expand_is (problem b K (posed start o.limits.now)) ((g.R.Rule.marking m.rule.now).marks b) two.marks.now (take n rows) i s.setting s.charge m.task.now.actions
           (ap (λ r. r.setting) is ∙ (f.read d).0) (ap (λ r. r.charge) is ∙ (f.read d).1) (act_count m.task.now m.actions.now m.served.in_table) (k.marked lawful proper);
       grew = record { more = omega (arith, spread.grew.more, x.used); within = spread.grew.within; waiting = spread.grew.waiting; even = omega (arith, spread.grew.even, x.used, x.waiting) };
-      rest = spread.rest ∙ ap (drop new.sizes.used) (x.rows d) ∙ drop-set-lt new.sizes.used rows i (shut (get_or rows i d)) (omega (arith, spread.grew.more, x.used, f.low));
-      lined = λ p. spread.lined (x.lined p (f.first K p));
+      rest = spread.rest ∙ ap (drop new.sizes.used) (x.rows d) ∙ drop-set-lt new.sizes.used rows i (shut (get_or rows i d)) (omega (arith, spread.grew.more, x.used, q.1));
+      lined = λ f p. spread.lined (x.lined p (f.first K p));
       kept = ((e.kept.0.0 ∙ x.kept.0.0, e.kept.0.1 ∙ x.kept.0.1), (e.kept.1.0 ∙ x.kept.1.0, e.kept.1.1 ∙ x.kept.1.1), e.kept.2 ∙ x.kept.2, e.kept.3 ∙ x.kept.3);
       clear = k.clear;
       beyond = k.rest;

@@ -1,4 +1,4 @@
-use Rattle.std.proofs.Common.{◌<◌, ◌≤◌, length, take, Some, ap, ◌∙◌, arith}
+use Rattle.std.proofs.Common.{◌<◌, ◌≤◌, length, take, Some, sym, ap, ◌∙◌, arith}
 use Rattle.std.proofs.lemmas.List.{length-take-le, get_or_default}
 use Rattle.search.specs.Queues.{queue}
 use Rattle.search.proofs.Tells.{queue_long, queue_at}
@@ -13,12 +13,12 @@ returns-clause-some g c =
     let table = o.table.now in
     let n = o.sizes.used in
     let m = o.sizes.waiting in
-    let i = c.min-row.result in
+    let i = c.within-row.result in
     let r = c.index-self-row.result in
     let w = c.waiting_at-first.result in
     let fits : m ≤ length table = omega (arith, o.roomy) in
     let some : 0 < m = omega (arith, c.if-self-eq0.false) in
-    let low : i < n = omega (arith, c.min-row.ensures, some, o.roomy.waiting) in
+    let low : i < n = c.within-row.ensures.low in
     let in' : i < length rows = omega (arith, low, o.roomy) in
     record {
       waits = some;
@@ -30,5 +30,5 @@ returns-clause-some g c =
           let is = queue_at table m 0 w some read in
           let f = first_least_row K (take n rows) (queue m table) 0 w p.matched (omega arith) is (first_least K (queue m table) w is p.queued) in
           let long_rows = length-take-le n rows (omega (arith, o.roomy)) in
-          f.1 ∙ ap Some (let used : w.row < n = omega (arith, f.0) in omega (arith, c.min-row.ensures));
+          f.1 ∙ ap Some (sym (c.within-row.ensures.same (let used : w.row < n = omega (arith, f.0, long_rows) in used)));
     }

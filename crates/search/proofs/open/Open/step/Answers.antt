@@ -29,7 +29,7 @@ returns-clause-ran g c = λ start lawful sound lined k.
     let s = source_sound b K q marking rows n source.row source.setting source.charge sound low is.0 is.1 in
     let count : n + 1 ≡ new.expanded = omega (arith, x.grew.even, o.counted, new.counted) in
     ap (λ j. advance (problem b K q) marking j rows n) (add-one k)
-    ∙ goes_on b K q marking rows n source.row (f.first K lined) off rows' (ap (λ z. swept z rows') (sym c.in_ok-expand.was) ∙ x.rows start lawful s.0 s.1) k
+    ∙ goes_on b K q marking rows n source.row (f.first K lined) off rows' (ap (λ z. swept z rows') (sym c.in_ok-expand.was) ∙ x.rows start f lawful s.0 s.1) k
     ∙ ap (advance (problem b K q) marking k rows') count
 
 pub returns-in_err-expand-clause-ran : goal.returns-in_err-expand-clause-ran
@@ -54,6 +54,6 @@ returns-in_err-expand-clause-ran g c = λ start lawful sound lined k.
     let full : c.from_residual-in_err-expand.result ≡ Err Crowded = search rules in
     let count : n + 1 ≡ new.expanded = omega (arith, x.grew.even, o.counted, new.counted) in
     ap (λ j. advance (problem b K q) marking j rows n) (add-one k)
-    ∙ ends_full b K q marking rows n source.row (f.first K lined) off rows' (ap (λ z. swept z rows') (sym c.in_err-expand.was) ∙ x.rows start lawful s.0 s.1) k
+    ∙ ends_full b K q marking rows n source.row (f.first K lined) off rows' (ap (λ z. swept z rows') (sym c.in_err-expand.was) ∙ x.rows start f lawful s.0 s.1) k
     ∙ ap (λ j. (let t : State g.row.T-Charge.Denot = record { rows = rows'; count = j; outcome = crowded } in t)) count
     ∙ ap (λ z. stepped z (advance (problem b K q) marking k) rows' new.expanded) (sym full)
