@@ -146,7 +146,7 @@ pub filling_begins : (book : List ℕ) (table : List Action) (now : Records) →
 filling_begins book table now left at = record { reached = start; walk = begins book now.left.now now.at start left at refl; number = refl; first = refl; rest = refl }
 
 -- the head and the parts that are read are those that are admitted
-same_head : (σ : Reading) (bytes : List ℕ) (at : ℕ) (next : Reading × ℕ) (a : Admitted σ bytes at next) (h : Head) → Ok h ≡ head_of bytes at → h ≡ a.head
+pub same_head : (σ : Reading) (bytes : List ℕ) (at : ℕ) (next : Reading × ℕ) (a : Admitted σ bytes at next) (h : Head) → Ok h ≡ head_of bytes at → h ≡ a.head
 same_head σ bytes at next a h e = ok_same _ _ (e ∙ a.is_head)
 
 read_parts : (σ : Reading) (now after : Records) (next : Reading × ℕ) (a : Admitted σ now.left.now now.at next) (raw : Raw) → FirstRecord now raw after → (x : Result Parts Refusal) → x ≡ parts_of raw.kind raw.body.now raw.at → x ≡ Ok a.parts

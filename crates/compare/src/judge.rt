@@ -2,7 +2,7 @@
 use crate::chance::Chance;
 use crate::made::{Made, setting};
 use crate::plain::{Cost, Costs, Prices, STEPS, Small, Values, cheapest, closure, within};
-use crate::runs::{End, Failure, Went};
+use crate::runs::{Billed, End, Failure, Planner, Went};
 use rules::Rule;
 
 // Is the list a plan from the task's start at this cost, and was each remainder the cost of what followed?
@@ -29,10 +29,10 @@ fn is_plan<P: Prices>(small: &Small, prices: &P, plan: &[Went], cost: Cost) -> b
     small.goal.met(values) && sum == cost && left == Cost::default()
 }
 
-// Did the search end as it must?
-pub(crate) fn ended_rightly<P: Prices>(
+// Did the planner's search end as it must?
+pub(crate) fn ended_rightly<B: Billed>(
     small: &Small,
-    prices: &P,
+    planner: &Planner<B>,
     costs: &Costs,
     bound: Cost,
     places: usize,
@@ -40,7 +40,10 @@ pub(crate) fn ended_rightly<P: Prices>(
 ) -> bool {
     let best = cheapest(small, costs).filter(|cost| *cost <= bound);
     match ended {
-        Ok(End::Found(cost, plan)) => best == Some(*cost) && is_plan(small, prices, plan, *cost),
+        Ok(End::Found(cost)) => {
+            let walked = is_plan(small, &planner.tariff, &planner.went, *cost);
+            best == Some(*cost) && walked
+        }
         Ok(End::NoPlan) => best.is_none(),
         Ok(End::Full) => within(costs, bound) > places,
         Err(_) => false,

@@ -39,7 +39,7 @@ impl Tally {
     fn ended(&mut self, ended: &Result<End, Failure>) {
         self.searches = self.searches.saturating_add(1);
         match ended {
-            Ok(End::Found(_, _)) => self.found = self.found.saturating_add(1),
+            Ok(End::Found(_)) => self.found = self.found.saturating_add(1),
             Ok(End::NoPlan) => self.none = self.none.saturating_add(1),
             Ok(End::Full) => self.full = self.full.saturating_add(1),
             Err(_) => {}
@@ -120,7 +120,7 @@ impl Comparison {
         let start = setting(small.start);
         let ended = planner.search(rule, &case.made, start, bound, places, chance);
         self.tally.ended(&ended);
-        let right = ended_rightly(small, &planner.tariff, costs, bound, places, &ended);
+        let right = ended_rightly(small, planner, costs, bound, places, &ended);
         self.tally.judge(right);
     }
 

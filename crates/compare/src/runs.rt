@@ -74,10 +74,10 @@ pub(crate) struct Went {
     pub(crate) remaining: Cost,
 }
 
-// How a search ended: with a plan's cost and its actions, with no plan, with no row left.
-#[derive(Drop)]
+// How a search ended: with a plan of a cost, with no plan, with no row left.
+#[derive(Clone, Copy)]
 pub(crate) enum End {
-    Found(Cost, ArrayVec<Went, SETTINGS>),
+    Found(Cost),
     NoPlan,
     Full,
 }
@@ -95,9 +95,9 @@ fn take_all<B: Billed>(
     actions: &[Action],
     plan: &[u16],
     ended: Ended<B::Charge>,
-) -> ArrayVec<Went, SETTINGS> {
+    went: &mut ArrayVec<Went, SETTINGS>,
+) {
     let mut phase = ended;
-    let mut went = ArrayVec::new();
     for _ in 0..SETTINGS {
         match take(tariff, actions, plan, phase) {
             Ok(taken) => {
@@ -115,12 +115,11 @@ fn take_all<B: Billed>(
             Err(refused) => {
                 let Refused { phase, refusal: _ } = refused;
                 let _ = phase.abandon().into_task();
-                return went;
+                return;
             }
         }
     }
     let _ = phase.abandon().into_task();
-    went
 }
 
 // What an Advance came to: the search goes on, or is over.
@@ -129,13 +128,14 @@ fn outcome<B: Billed>(
     actions: &[Action],
     plan: &[u16],
     advanced: Advanced<B::Charge>,
+    went: &mut ArrayVec<Went, SETTINGS>,
 ) -> ControlFlow<Result<End, Failure>, Search<B::Charge>> {
     match advanced {
         Advanced::Working(search, _) => ControlFlow::Continue(search),
         Advanced::Found(ended, charge, _) => {
             let cost = tariff.cost_of(charge);
-            let went = take_all(tariff, actions, plan, ended);
-            ControlFlow::Break(Ok(End::Found(cost, went)))
+            take_all(tariff, actions, plan, ended, went);
+            ControlFlow::Break(Ok(End::Found(cost)))
         }
         Advanced::NoPlan(ended, _) => {
             let _ = ended.abandon().into_task();
@@ -148,7 +148,8 @@ fn outcome<B: Billed>(
     }
 }
 
-// A tariff, and tables for its searches. The rows and the queue keep what the last search left in them.
+// A tariff, tables for its searches, and the actions that were taken of the last plan. The rows and the queue keep what
+// the last search left in them.
 #[derive(Drop)]
 pub(crate) struct Planner<B: Billed> {
     pub(crate) tariff: B,
@@ -157,6 +158,7 @@ pub(crate) struct Planner<B: Billed> {
     plan: [u16; SETTINGS],
     marks: [u8; STEPS],
     work: [u8; 4096],
+    pub(crate) went: ArrayVec<Went, SETTINGS>,
 }
 
 impl<B: Billed> Planner<B> {
@@ -178,6 +180,7 @@ impl<B: Billed> Planner<B> {
             plan: [0; SETTINGS],
             marks: [9; STEPS],
             work: [9; 4096],
+            went: ArrayVec::new(),
         }
     }
 
@@ -203,7 +206,13 @@ impl<B: Billed> Planner<B> {
             let steps = chance.below(6) as usize;
             match advance(&self.tariff, rule, &made.table, search, lent, steps) {
                 Ok(advanced) => {
-                    match outcome(&self.tariff, &made.table, &self.plan, advanced) {
+                    match outcome(
+                        &self.tariff,
+                        &made.table,
+                        &self.plan,
+                        advanced,
+                        &mut self.went,
+                    ) {
                         ControlFlow::Continue(next) => search = next,
                         ControlFlow::Break(end) => return end,
                     }
@@ -232,6 +241,7 @@ impl<B: Billed> Planner<B> {
         self.plan = [0; SETTINGS];
         self.marks = [9; STEPS];
         self.work = [9; 4096];
+        self.went.clear();
         let charge = self.tariff.charge_of(bound);
         let rows = &mut self.rows[..];
         let lent = Tables {

@@ -39,5 +39,10 @@ impl fmt::Display for Reply {
 pub fn words_of(heap: Global, reply: Reply) -> Result<String, AllocError>
     ensures { IfOk result (λ s. string_bytes s ≡ words reply) }
 {
-    reply.to_string(heap)
+    // A word alone is copied: the formatter takes half as long again, and more memory.
+    match reply {
+        Reply::Ready => String::from_str(heap, "ready"),
+        Reply::Rest => String::from_str(heap, "rest"),
+        counted => counted.to_string(heap),
+    }
 }
