@@ -39,7 +39,7 @@ impl fmt::Display for Reply {
 pub fn words_of(heap: Global, reply: Reply) -> Result<String, AllocError>
     ensures { IfOk result (λ s. string_bytes s ≡ words reply) }
 {
-    // A word alone is copied: the formatter takes half as long again, and more memory.
+    // A word alone is copied: the formatter asks for more memory than the word takes.
     match reply {
         Reply::Ready => String::from_str(heap, "ready"),
         Reply::Rest => String::from_str(heap, "rest"),
